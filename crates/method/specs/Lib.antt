@@ -1,0 +1,1 @@
+-- The method: what a reader must believe, and what follows from it.
