@@ -1,1 +1,2 @@
 -- The method: what a reader must believe, and what follows from it.
+pub mod Floats
