@@ -1,0 +1,21 @@
+-- Where the entries of a row-major table stand: entry (i, j) at i * stride + j. Laws on plain numbers, for every index that the code forms.
+-- Assumes nothing.
+use mathlib.Core.Path.{_≡_, refl, ap, _∙_}
+use Prim.Native.Nat.{ℕ, zero, suc, _+_, _*_, _<_, _≤_}
+use native.Mathlib.Nat.{suc-mul, mul-le-mul-right, le-trans, add-mul}
+use native.Mathlib.Numerals.{add-one, add-one-le}
+use native.Mathlib.Omega.{arith}
+
+-- a row further
+pub row-next : (k s : ℕ) → (k + 1) * s ≡ k * s + s
+row-next k s = rw (add-one, suc-mul)
+
+-- row k ends where row n starts, or before
+pub row-below : {k n : ℕ} (s : ℕ) → k < n → k * s + s ≤ n * s
+row-below {k} {n} s h = rw (← suc-mul) (mul-le-mul-right s h)
+
+-- an entry of the first n rows stands below n * s, so inside a list of that length
+pub inside : {i n j : ℕ} (s len : ℕ) → i < n → j < s → n * s ≤ len → i * s + j < len
+inside {i} {n} {j} s len h g fits =
+    let b = row-below s h in
+    omega arith

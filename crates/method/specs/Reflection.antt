@@ -1,0 +1,221 @@
+-- Reflections (document 006): how one is made of a run of entries, and what it does to a table from the right and from the left, sums in the
+-- order written there. Definitions, the two cases of `reflectionOf`, and that lengths stay. Assumes nothing.
+use mathlib.Core.Path.{_≡_, refl, ap, _∙_}
+use mathlib.Core.Bool.{Bool, true, false}
+use mathlib.Core.List.{List}
+use Prim.Native.Nat.{ℕ, _+_, _*_}
+use lib.ListN.{length, getD, set, replicate, length-set}
+use lib.Ieee.{Float, nan, Format, add, sub, mul, div, neg, lt}
+use Rattle.method.specs.Floats.{plusZero, one, pick, magnitude, signOf}
+use Rattle.method.specs.Root.{squareRoot}
+use Rattle.method.specs.Turns.{turns, turns-keep}
+
+-- a scratch vector: 48 times +0
+abbrev pub blank : List Float
+blank = replicate 48 plusZero
+
+-- ---- the reflection of n entries
+
+-- the larger of m and |x|: a NaN is passed over
+abbrev pub widened : Float → Float → Float
+widened m x = pick (lt m (magnitude x)) (magnitude x) m
+
+-- the largest magnitude among the n entries from `at` on
+unfoldable pub largestOf : List Float → ℕ → ℕ → Float
+largestOf v at n = turns 0 n (λ k m. widened m (getD v (at + k) nan)) plusZero
+
+-- a blank vector with the n entries from `at` on, each times x
+unfoldable pub scaled : Format → List Float → ℕ → Float → ℕ → List Float
+scaled f v at x n = turns 0 n (λ k w. set w k (mul f (getD v (at + k) nan) x)) blank
+
+-- the n entries from `at` on set to +0
+unfoldable pub cleared : ℕ → ℕ → List Float → List Float
+cleared at n v = turns 0 n (λ k v. set v (at + k) plusZero) v
+
+-- the sum of the squares of the first n entries
+unfoldable pub squaresOf : Format → List Float → ℕ → Float
+squaresOf f w n = turns 0 n (λ k s. add f s (mul f (getD w k nan) (getD w k nan))) plusZero
+
+-- entries 1 to n - 1, each times x
+unfoldable pub tailTimes : Format → Float → ℕ → List Float → List Float
+tailTimes f x n w = turns 1 n (λ k w. set w k (mul f (getD w k nan) x)) w
+
+-- what making a reflection leaves in the entries, its vector (whose head is 1) and its tau
+pub record Reflection : Type 0 where
+  pub entries : List Float
+  pub vector : List Float
+  pub tau : Float
+
+-- the length of the scaled entries w, with the sign of their head
+abbrev pub signedLength : Format → List Float → ℕ → Float
+signedLength f w n = mul f (signOf (getD w 0 nan)) (squareRoot f (squaresOf f w n))
+
+-- from the largest magnitude, the scaled entries and their signed length g: the head becomes -g * largest and the tail +0
+abbrev pub reflectionBy : Format → List Float → ℕ → ℕ → Float → List Float → Float → Reflection
+reflectionBy f v at n largest w g =
+    record {
+      entries = set (cleared at n v) at (mul f (neg g) largest);
+      vector = set (tailTimes f (div f one (add f (getD w 0 nan) g)) n w) 0 one;
+      tau = div f (add f (getD w 0 nan) g) g;
+    }
+
+-- The reflection of the n entries of v from `at` on. Where their largest magnitude is below the floor: tau 0, and they stay as they are.
+unfoldable pub reflectionOf : Format → Float → ℕ → ℕ → List Float → Reflection
+reflectionOf f floor at n v =
+    elim (lt (largestOf v at n) floor) [
+      | true ↦ record { entries = v; vector = set blank 0 one; tau = plusZero }
+      | false ↦
+          let largest = largestOf v at n in
+          let w = scaled f v at (div f one largest) n in
+          reflectionBy f v at n largest w (signedLength f w n)
+    ]
+
+-- ---- from the right: each row on its own
+
+-- a[off] + a[off + 1] * p[1] + .. + a[off + n - 1] * p[n - 1], added up from the left
+unfoldable pub rowTimes : Format → List Float → ℕ → ℕ → List Float → Float
+rowTimes f p off n a = turns 1 n (λ k sum. add f sum (mul f (getD a (off + k) nan) (getD p k nan))) (getD a off nan)
+
+-- the row of n entries from `off` on, less x times p, whose head counts as 1
+unfoldable pub rowLess : Format → List Float → Float → ℕ → ℕ → List Float → List Float
+rowLess f p x off n a =
+    turns 1 n (λ k a. set a (off + k) (sub f (getD a (off + k) nan) (mul f x (getD p k nan)))) (set a off (sub f (getD a off nan) x))
+
+-- a row with its product with p, times tau, taken off along p
+unfoldable pub rowReflected : Format → List Float → Float → ℕ → ℕ → List Float → List Float
+rowReflected f p tau off n a = rowLess f p (mul f (rowTimes f p off n a) tau) off n a
+
+-- the reflection of the `rows` rows from i on, in the `cols` columns from j on
+unfoldable pub reflectedRight : Format → List Float → Float → ℕ → ℕ → ℕ → ℕ → ℕ → List Float → List Float
+reflectedRight f p tau stride i j rows cols a = turns 0 rows (λ k. rowReflected f p tau ((i + k) * stride + j) cols) a
+
+-- ---- from the left: the rows' sum first, then each row less its share
+
+-- a blank vector with the n entries from `off` on
+unfoldable pub rowCopied : ℕ → ℕ → List Float → List Float
+rowCopied off n a = turns 0 n (λ l w. set w l (getD a (off + l) nan)) blank
+
+-- w plus x times the row at `off`
+unfoldable pub rowAdded : Format → List Float → Float → ℕ → ℕ → List Float → List Float
+rowAdded f a x off n w = turns 0 n (λ l w. set w l (add f (getD w l nan) (mul f x (getD a (off + l) nan)))) w
+
+-- row i plus p[1] times row i + 1 plus .. plus p[rows - 1] times row i + rows - 1, in the `cols` columns from j on
+unfoldable pub columnSums : Format → List Float → ℕ → ℕ → ℕ → ℕ → ℕ → List Float → List Float
+columnSums f p stride i j rows cols a = turns 1 rows (λ k. rowAdded f a (getD p k nan) ((i + k) * stride + j) cols) (rowCopied (i * stride + j) cols a)
+
+-- the first n entries, each times x
+unfoldable pub allTimes : Format → Float → ℕ → List Float → List Float
+allTimes f x n w = turns 0 n (λ l w. set w l (mul f (getD w l nan) x)) w
+
+-- the row at `off`, less w
+unfoldable pub rowLessAll : Format → List Float → ℕ → ℕ → List Float → List Float
+rowLessAll f w off n a = turns 0 n (λ l a. set a (off + l) (sub f (getD a (off + l) nan) (getD w l nan))) a
+
+-- the row at `off`, less x times w
+unfoldable pub rowLessTimes : Format → List Float → Float → ℕ → ℕ → List Float → List Float
+rowLessTimes f w x off n a = turns 0 n (λ l a. set a (off + l) (sub f (getD a (off + l) nan) (mul f x (getD w l nan)))) a
+
+-- row i less w, and row i + k less p[k] times w
+unfoldable pub rowsLess : Format → List Float → List Float → ℕ → ℕ → ℕ → ℕ → ℕ → List Float → List Float
+rowsLess f p w stride i j rows cols a = turns 1 rows (λ k. rowLessTimes f w (getD p k nan) ((i + k) * stride + j) cols) (rowLessAll f w (i * stride + j) cols a)
+
+-- the reflection of the `rows` rows from i on, in the `cols` columns from j on
+unfoldable pub reflectedLeft : Format → List Float → Float → ℕ → ℕ → ℕ → ℕ → ℕ → List Float → List Float
+reflectedLeft f p tau stride i j rows cols a = rowsLess f p (allTimes f tau cols (columnSums f p stride i j rows cols a)) stride i j rows cols a
+
+-- ---- the cases of a reflection
+
+-- |x| takes m's place, or m stays
+pub widened-taken : (m y x : Float) → lt m y ≡ true → y ≡ magnitude x → y ≡ widened m x
+widened-taken m y x h e = rw (← e, h)
+
+pub widened-left : (m y x : Float) → lt m y ≡ false → y ≡ magnitude x → m ≡ widened m x
+widened-left m y x h e = rw (← e, h)
+
+module _ (f : Format) (floor : Float) (at n : ℕ) (v : List Float) where
+  pub reflection-small : lt (largestOf v at n) floor ≡ true → record { entries = v; vector = set blank 0 one; tau = plusZero } ≡ reflectionOf f floor at n v
+  unfolding reflectionOf
+  reflection-small e = rw (e, reflectionOf)
+
+  -- each part is what its definition says of those before it
+  pub reflection-large :
+      (largest sign root sum : Float) (w v′ w′ : List Float) →
+      largest ≡ largestOf v at n →
+      lt largest floor ≡ false →
+      w ≡ scaled f v at (div f one largest) n →
+      v′ ≡ cleared at n v →
+      sum ≡ squaresOf f w n →
+      sign ≡ signOf (getD w 0 nan) →
+      root ≡ squareRoot f sum →
+      w′ ≡ tailTimes f (div f one (add f (getD w 0 nan) (mul f sign root))) n w →
+      record {
+        entries = set v′ at (mul f (neg (mul f sign root)) largest);
+        vector = set w′ 0 one;
+        tau = div f (add f (getD w 0 nan) (mul f sign root)) (mul f sign root);
+      } ≡
+      reflectionOf f floor at n v
+  unfolding reflectionOf
+  reflection-large largest sign root sum w v′ w′ el test ew ev es eg er et =
+      rw (et, ev, er, eg, es, ew, el) (rw (rw el at test, reflectionOf))
+
+-- ---- lengths stay
+
+-- a loop of stores into the list
+stored : (lo : ℕ) (at : ℕ → ℕ) (x : ℕ → List Float → Float) (n : ℕ) (a : List Float) → length (turns lo n (λ k a. set a (at k) (x k a)) a) ≡ length a
+stored lo at x n a = turns-keep lo _ (λ (l : List Float). length l ≡ length a) (λ k l e. simp length-set e) n a refl
+
+pub cleared-length : (at n : ℕ) (v : List Float) → length (cleared at n v) ≡ length v
+unfolding cleared
+cleared-length at n v = stored 0 (λ k. at + k) (λ k a. plusZero) n v
+
+module _ (f : Format) where
+  pub scaled-length : (v : List Float) (at : ℕ) (x : Float) (n : ℕ) → length (scaled f v at x n) ≡ 48
+  unfolding scaled
+  scaled-length v at x n = stored 0 (λ k. k) (λ k w. mul f (getD v (at + k) nan) x) n blank
+
+  pub tailTimes-length : (x : Float) (n : ℕ) (w : List Float) → length (tailTimes f x n w) ≡ length w
+  unfolding tailTimes
+  tailTimes-length x n w = stored 1 (λ k. k) (λ k w. mul f (getD w k nan) x) n w
+
+  pub reflectionOf-entries : (floor : Float) (at n : ℕ) (v : List Float) → length (reflectionOf f floor at n v .entries) ≡ length v
+  reflectionOf-entries floor at n v = go (lt (largestOf v at n) floor) refl
+    where
+      go : (b : Bool) → lt (largestOf v at n) floor ≡ b → length (reflectionOf f floor at n v .entries) ≡ length v
+      go true e = rw (← reflection-small f floor at n v e) refl
+      go false e = rw (← reflection-large f floor at n v _ _ _ _ _ _ _ refl e refl refl refl refl refl refl) (simp length-set (cleared-length at n v))
+
+  pub reflectionOf-vector : (floor : Float) (at n : ℕ) (v : List Float) → length (reflectionOf f floor at n v .vector) ≡ 48
+  reflectionOf-vector floor at n v = go (lt (largestOf v at n) floor) refl
+    where
+      go : (b : Bool) → lt (largestOf v at n) floor ≡ b → length (reflectionOf f floor at n v .vector) ≡ 48
+      go true e = rw (← reflection-small f floor at n v e) refl
+      go false e = rw (← reflection-large f floor at n v _ _ _ _ _ _ _ refl e refl refl refl refl refl refl) (simp (length-set, tailTimes-length, scaled-length))
+
+  pub rowLess-length : (p : List Float) (x : Float) (off n : ℕ) (a : List Float) → length (rowLess f p x off n a) ≡ length a
+  unfolding rowLess
+  rowLess-length p x off n a = stored 1 (λ k. off + k) (λ k a. sub f (getD a (off + k) nan) (mul f x (getD p k nan))) n _ ∙ simp length-set
+
+  pub rowReflected-length : (p : List Float) (tau : Float) (off n : ℕ) (a : List Float) → length (rowReflected f p tau off n a) ≡ length a
+  unfolding rowReflected
+  rowReflected-length p tau off n a = rowLess-length p _ off n a
+
+  pub reflectedRight-length : (p : List Float) (tau : Float) (stride i j rows cols : ℕ) (a : List Float) → length (reflectedRight f p tau stride i j rows cols a) ≡ length a
+  unfolding reflectedRight
+  reflectedRight-length p tau stride i j rows cols a = turns-keep 0 _ (λ (l : List Float). length l ≡ length a) (λ k l e. rowReflected-length p tau ((i + k) * stride + j) cols l ∙ e) rows a refl
+
+  pub rowLessAll-length : (w : List Float) (off n : ℕ) (a : List Float) → length (rowLessAll f w off n a) ≡ length a
+  unfolding rowLessAll
+  rowLessAll-length w off n a = stored 0 (λ l. off + l) (λ l a. sub f (getD a (off + l) nan) (getD w l nan)) n a
+
+  pub rowLessTimes-length : (w : List Float) (x : Float) (off n : ℕ) (a : List Float) → length (rowLessTimes f w x off n a) ≡ length a
+  unfolding rowLessTimes
+  rowLessTimes-length w x off n a = stored 0 (λ l. off + l) (λ l a. sub f (getD a (off + l) nan) (mul f x (getD w l nan))) n a
+
+  pub reflectedLeft-length : (p : List Float) (tau : Float) (stride i j rows cols : ℕ) (a : List Float) → length (reflectedLeft f p tau stride i j rows cols a) ≡ length a
+  unfolding reflectedLeft rowsLess
+  reflectedLeft-length p tau stride i j rows cols a =
+      turns-keep 1 _ (λ (l : List Float). length l ≡ length a)
+      (λ k l e. rowLessTimes-length _ (getD p k nan) ((i + k) * stride + j) cols l ∙ e)
+      rows
+      _
+      (rowLessAll-length _ (i * stride + j) cols a)

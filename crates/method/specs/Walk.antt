@@ -1,0 +1,90 @@
+-- The walk (document 000's loop): while the range is above 1 and the counter below the limit, one pass. A pass drops the last coupling where it is
+-- negligible, and sweeps the live corner where it is not. Nothing here says what the data are, when a coupling is negligible, or what a sweep does:
+-- those are `Rules`, so that what is true of the walk is said once, for every number type. Definitions only.
+pub mod Run
+pub mod Counts
+pub mod Limits
+pub mod Alike
+pub mod Loop
+use Prim.Native.Nat.{ℕ, zero, suc, _+_, _-_, _*_}
+use mathlib.Core.Bool.{Bool, true, false, _&&_}
+use lib.Dec.{ltb}
+
+-- the walk's record: the range of the live corner, the counter that the limit bounds, and how many passes, sweeps and drops were made
+pub record Walk : Type 0 where
+  pub range : ℕ
+  pub counter : ℕ
+  pub passes : ℕ
+  pub sweeps : ℕ
+  pub drops : ℕ
+
+-- what the data are asked: whether the coupling at a range is negligible, and what a sweep over a range makes of them
+pub record Rules (D : Type 0) : Type 0 where
+  pub negligible : ℕ → D → Bool
+  pub sweep : ℕ → D → D
+
+-- the record and the data
+pub record State (D : Type 0) : Type 0 where
+  pub walk : Walk
+  pub held : D
+
+abbrev pub stands : {D : Type 0} → Walk → D → State D
+stands w d = record { walk = w; held = d }
+
+-- the record at the start, over a diagonal of c entries
+abbrev pub begun : ℕ → Walk
+begun c = record { range = c; counter = 0; passes = 0; sweeps = 0; drops = 0 }
+
+abbrev pub start : {D : Type 0} → ℕ → D → State D
+start c d = stands (begun c) d
+
+-- the record after a pass that drops: the counter rises by 1, and then falls by the credit, stopping at 0
+abbrev pub afterDrop : ℕ → Walk → Walk
+afterDrop credit w =
+    record {
+      range = w .range - 1;
+      counter = w .counter + 1 - credit;
+      passes = w .passes + 1;
+      sweeps = w .sweeps;
+      drops = w .drops + 1;
+    }
+
+-- the record after a pass that sweeps
+abbrev pub afterSweep : Walk → Walk
+afterSweep w =
+    record {
+      range = w .range;
+      counter = w .counter + 1;
+      passes = w .passes + 1;
+      sweeps = w .sweeps + 1;
+      drops = w .drops;
+    }
+
+-- there is a pass to do
+abbrev pub going : ℕ → Walk → Bool
+going limit w = ltb 1 (w .range) && ltb (w .counter) limit
+
+-- one pass: a drop leaves the data as they are
+unfoldable pub pass : {D : Type 0} → Rules D → ℕ → State D → State D
+pass rules credit s =
+    elim (rules .negligible (s .walk .range) (s .held)) [
+      | true ↦ record { walk = afterDrop credit (s .walk); held = s .held }
+      | false ↦ record { walk = afterSweep (s .walk); held = rules .sweep (s .walk .range) (s .held) }
+    ]
+
+-- at most so many passes
+unfoldable pub run : {D : Type 0} → Rules D → ℕ → ℕ → ℕ → State D → State D
+run rules limit credit zero s = s
+run rules limit credit (suc n) s =
+    elim (going limit (s .walk)) [
+      | true ↦ run rules limit credit n (pass rules credit s)
+      | false ↦ s
+    ]
+
+-- no walk from range c makes more passes
+abbrev pub enough : ℕ → ℕ → ℕ → ℕ
+enough limit credit c = limit + credit * (c - 2)
+
+-- the whole walk
+abbrev pub walked : {D : Type 0} → Rules D → ℕ → ℕ → ℕ → D → State D
+walked rules limit credit c d = run rules limit credit (enough limit credit c) (start c d)

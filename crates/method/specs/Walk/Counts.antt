@@ -1,0 +1,164 @@
+-- What is true of every walk's record: passes are sweeps and drops, drops are what the range lost, and passes are bounded; and the run
+-- comes to its end by itself. Assumes nothing.
+use Prim.Native.Nat.{ℕ, zero, suc, _+_, _-_, _*_, _≤_, _<_, _^_}
+use native.Mathlib.Nat.{zero-add, suc-add, mul-suc, mul-le-mul, add-sub-of-le}
+use native.Mathlib.Omega.{arith}
+use mathlib.Core.Path.{_≡_, refl, sym, ap, _∙_}
+use mathlib.Core.Logic.{_⊎_, inl, inr}
+use mathlib.Core.Bool.{Bool, true, false, _&&_}
+use lib.Dec.{ltb}
+use borrow.Author.Tests.{ltb-true, ltb-false, lt-ltb, le-ltb}
+use Rattle.method.specs.Walk.{Walk, Rules, State, begun, start, afterDrop, afterSweep, going, pass, run, enough, walked}
+use Rattle.method.specs.Walk.Run.{Going, going-true, true-going, narrow, ended, pass-drop, pass-sweep, pass-keeps, run-more, run-end, run-keeps, run-add, run-next, run-same}
+
+-- ---- how many passes there can be
+
+-- what is ahead of a record at most, while its range is above 1
+abbrev ahead : ℕ → ℕ → Walk → ℕ
+ahead limit credit w = limit - w .counter + credit * (w .range - 2)
+
+-- a drop's credit is paid for by the range
+paid : (credit r : ℕ) → 2 < r → credit * (r - 2) ≡ credit * (r - 1 - 2) + credit
+paid credit r h = ap (λ (x : ℕ). credit * x) (let e : r - 2 ≡ suc (r - 1 - 2) = omega arith in e) ∙ mul-suc credit (r - 1 - 2)
+
+module _ (limit credit : ℕ) (w : Walk) (g : Going limit w) where
+  ahead-some : 0 < ahead limit credit w
+  ahead-some = omega (arith, g .below)
+
+  ahead-drop : 1 < afterDrop credit w .range → ahead limit credit (afterDrop credit w) < ahead limit credit w
+  ahead-drop h = omega (arith, g .below, paid credit (w .range) (omega arith))
+
+  ahead-sweep : ahead limit credit (afterSweep w) < ahead limit credit w
+  ahead-sweep = omega (arith, g .below)
+
+module _ {D : Type 0} (rules : Rules D) (limit credit : ℕ) where
+  -- with as much fuel as is ahead, a run comes to its end
+  pub run-done : (n : ℕ) (s : State D) → (1 < s .walk .range → ahead limit credit (s .walk) ≤ n) → going limit (run rules limit credit n s .walk) ≡ false
+  unfolding run
+  run-done zero s h = go (going limit (s .walk)) refl
+    where
+      go : (b : Bool) → going limit (s .walk) ≡ b → going limit (s .walk) ≡ false
+      go false e = e
+      go true e =
+          let g : Going limit (s .walk) = going-true limit (s .walk) e in
+          absurd (let z : ⊥ = omega (arith, h (g .wide), ahead-some limit credit (s .walk) g) in z)
+  run-done (suc n) s h = go (going limit (s .walk)) refl (run-done n (pass rules credit s))
+    where
+      go :
+          (b : Bool) → going limit (s .walk) ≡ b →
+          ((1 < pass rules credit s .walk .range → ahead limit credit (pass rules credit s .walk) ≤ n) → going limit (run rules limit credit n (pass rules credit s) .walk) ≡ false) →
+          going limit (run rules limit credit (suc n) s .walk) ≡ false
+      go false e ih = rw (run-end rules credit limit (suc n) s e) e
+      go true e ih =
+          let g : Going limit (s .walk) = going-true limit (s .walk) e in
+          rw (run-more rules credit limit n s e)
+          (ih
+          (pass-keeps rules credit (λ s′. 1 < s′ .walk .range → ahead limit credit (s′ .walk) ≤ n) s
+          (λ k. omega (arith, h (g .wide), ahead-drop limit credit (s .walk) g k))
+          (λ k. omega (arith, h (g .wide), ahead-sweep limit credit (s .walk) g))))
+
+-- ---- what holds of every record that a walk from c reaches
+
+pub record Counts (limit credit c : ℕ) (w : Walk) : Type 0 where
+  pub each : w .passes ≡ w .sweeps + w .drops
+  pub whole : w .range + w .drops ≡ c
+  pub kept : 1 ≤ c → 1 ≤ w .range
+  pub low : w .counter ≤ limit
+  pub few : w .passes ≤ enough limit credit c
+  pub left : 1 < w .range → w .passes + ahead limit credit w ≤ enough limit credit c
+  pub none : c ≤ 1 → w .passes ≡ 0
+
+module _ {D : Type 0} (rules : Rules D) (limit credit c : ℕ) where
+  counts-start : Counts limit credit c (begun c)
+  counts-start =
+      record {
+        each = omega arith;
+        whole = omega arith;
+        kept = λ h. h;
+        low = omega arith;
+        few = omega arith;
+        left = λ h. omega arith;
+        none = λ h. refl;
+      }
+
+  counts-drop : (w : Walk) → Going limit w → Counts limit credit c w → Counts limit credit c (afterDrop credit w)
+  counts-drop w g k =
+      record {
+        each = omega arith;
+        whole = omega arith;
+        kept = λ h. omega (arith, g .wide);
+        low = omega arith;
+        few = omega (arith, k .left (g .wide), ahead-some limit credit w g);
+        left = λ h. omega (arith, k .left (g .wide), ahead-drop limit credit w g h);
+        none = λ h. absurd (let z : ⊥ = omega arith in z);
+      }
+
+  counts-sweep : (w : Walk) → Going limit w → Counts limit credit c w → Counts limit credit c (afterSweep w)
+  counts-sweep w g k =
+      record {
+        each = omega arith;
+        whole = omega arith;
+        kept = k .kept;
+        low = omega arith;
+        few = omega (arith, k .left (g .wide), ahead-some limit credit w g);
+        left = λ h. omega (arith, k .left (g .wide), ahead-sweep limit credit w g);
+        none = λ h. absurd (let z : ⊥ = omega arith in z);
+      }
+
+  pub counts : (n : ℕ) (d : D) → Counts limit credit c (run rules limit credit n (start c d) .walk)
+  counts n d =
+      run-keeps rules credit limit (λ s. Counts limit credit c (s .walk))
+      (λ s g k. pass-keeps rules credit (λ s′. Counts limit credit c (s′ .walk)) s (counts-drop (s .walk) g k) (counts-sweep (s .walk) g k))
+      n
+      (start c d)
+      counts-start
+
+  -- the fuel of `walked` is enough: there is no pass left to do
+  pub walked-done : (d : D) → going limit (walked rules limit credit c d .walk) ≡ false
+  walked-done d = run-done rules limit credit (enough limit credit c) (start c d) (λ h. omega arith)
+
+  -- and more fuel gives the same state
+  pub walked-same : (n : ℕ) (d : D) → enough limit credit c ≤ n → run rules limit credit n (start c d) ≡ walked rules limit credit c d
+  walked-same n d h = run-same rules credit limit (start c d) h (walked-done d)
+
+  -- what every sweep keeps of the data, a run keeps
+  pub held-keeps :
+      (P : D → Type 0) → ((r : ℕ) (d : D) → 1 < r → r ≤ c → P d → P (rules .sweep r d)) → (n : ℕ) (d : D) → P d →
+      P (run rules limit credit n (start c d) .held)
+  held-keeps P step n d p =
+      run-keeps rules credit limit (λ s. Counts limit credit c (s .walk) × P (s .held))
+      (λ s g k.
+      pass-keeps rules credit (λ s′. Counts limit credit c (s′ .walk) × P (s′ .held)) s
+      (counts-drop (s .walk) g (k .0), k .1)
+      (counts-sweep (s .walk) g (k .0), step (s .walk .range) (s .held) (g .wide) (omega (arith, k .0 .whole)) (k .1)))
+      n
+      (start c d)
+      (counts-start, p) .1
+
+-- ---- what is promised of a whole walk's record
+
+pub record Report (limit credit c : ℕ) (w : Walk) : Type 0 where
+  pub each : w .passes ≡ w .sweeps + w .drops
+  pub drops : w .drops ≡ c - w .range
+  pub range : (1 ≤ w .range) × (w .range ≤ c)
+  pub few : w .passes ≤ limit + credit * (c - 2)
+  pub none : c ≤ 1 → w .passes ≡ 0
+  pub end : (w .range ≤ 1) ⊎ (limit ≤ w .counter)
+
+pub report : {D : Type 0} (rules : Rules D) (limit credit c : ℕ) (d : D) → 1 ≤ c → Report limit credit c (walked rules limit credit c d .walk)
+report rules limit credit c d h =
+    let k = counts rules limit credit c (enough limit credit c) d in
+    record {
+      each = k .each;
+      drops = omega (arith, k .whole);
+      range = (k .kept h, omega (arith, k .whole));
+      few = k .few;
+      none = k .none;
+      end = ended limit (walked rules limit credit c d .walk) (walked-done rules limit credit c d);
+    }
+
+-- the largest settings
+pub enough-most : {limit credit c : ℕ} → c ≤ 48 → limit ≤ 100000 → credit ≤ 1000 → enough limit credit c ≤ 146000
+enough-most {limit} {credit} {c} hc hl hk =
+    let m : credit * (c - 2) ≤ 1000 * 46 = mul-le-mul {n₁ = credit} {m₁ = c - 2} {n₂ = 1000} {m₂ = 46} hk (omega arith) in
+    omega arith
