@@ -1,6 +1,7 @@
 -- The bidiagonal form (document 001 and its twins in 002): columns are cleared below their heads and rows past theirs, by reflections that U
--- and V take too. Definitions only.
-use mathlib.Core.Bool.{Bool, true, false, not}
+-- and V take too. Definitions, and the cases by tau one by one. Assumes nothing.
+use mathlib.Core.Path.{_≡_}
+use mathlib.Core.Bool.{Bool, true, false}
 use mathlib.Core.List.{List}
 use Prim.Native.Nat.{ℕ, _+_, _-_, _*_}
 use lib.Dec.{eqb}
@@ -19,42 +20,57 @@ columnCopied stride i j n a = turns 0 n (λ k w. set w k (at stride (i + k) j a)
 unfoldable pub columnCleared : ℕ → ℕ → ℕ → ℕ → List Float → List Float
 columnCleared stride i j n a = turns 0 n (λ k a. set a ((i + k) * stride + j) plusZero) a
 
--- the reflection of column j from row i on
-abbrev pub columnReflection : Format → Float → Shape → ℕ → ℕ → List Float → Reflection
-columnReflection f floor z i j a = reflectionOf f floor 0 (z .rows - i) (columnCopied (z .stride) i j (z .rows - i) a)
+-- the reflection of column j from row i on, in a table of `rows` rows
+abbrev pub columnReflection : Format → Float → ℕ → ℕ → ℕ → ℕ → List Float → Reflection
+columnReflection f floor rows stride i j a = reflectionOf f floor 0 (rows - i) (columnCopied stride i j (rows - i) a)
 
--- column j cleared from row i on, but for the head that its reflection leaves: below the floor too
-abbrev pub headed : Shape → ℕ → ℕ → Reflection → List Float → List Float
-headed z i j r a = set (columnCleared (z .stride) i j (z .rows - i) a) (i * z .stride + j) (getD (r .entries) 0 nan)
+-- column j set to +0 from row i on, but for the head that its reflection leaves
+abbrev pub headed : Reflection → ℕ → ℕ → ℕ → ℕ → List Float → List Float
+headed r rows stride i j a = set (columnCleared stride i j (rows - i) a) (i * stride + j) (getD (r .entries) 0 nan)
 
--- column j cleared below row i; where tau is not 0, the columns right of it, and U's columns from i on, take the reflection
+-- the table with column j cleared below row i, below the floor too; where tau is not 0, the columns right of it take the reflection
+unfoldable pub columnMatrix : Format → Float → ℕ → ℕ → ℕ → ℕ → ℕ → List Float → List Float
+columnMatrix f floor rows cols stride i j a =
+    let r = columnReflection f floor rows stride i j a in
+    elim (eq (r .tau) plusZero) [
+      | true ↦ headed r rows stride i j a
+      | false ↦ reflectedLeft f (r .vector) (r .tau) stride i (j + 1) (rows - i) (cols - (j + 1)) (headed r rows stride i j a)
+    ]
+
+-- the table with row i cleared right of column j, or left as found where tau is 0; where it is not, the rows below take the reflection
+unfoldable pub rowMatrix : Format → Float → ℕ → ℕ → ℕ → ℕ → ℕ → List Float → List Float
+rowMatrix f floor rows cols stride i j a =
+    let r = reflectionOf f floor (i * stride + j) (cols - j) a in
+    elim (eq (r .tau) plusZero) [
+      | true ↦ r .entries
+      | false ↦ reflectedRight f (r .vector) (r .tau) stride (i + 1) j (rows - (i + 1)) (cols - j) (r .entries)
+    ]
+
+-- a factor of size n, of which `kept` rows are kept: its columns from i on take the reflection, where tau is not 0
+unfoldable pub factorReflected : Format → Reflection → ℕ → ℕ → ℕ → List Float → List Float
+factorReflected f r n kept i a =
+    elim (eq (r .tau) plusZero) [
+      | true ↦ a
+      | false ↦ reflectedRight f (r .vector) (r .tau) n 0 i kept (n - i) a
+    ]
+
+-- column j cleared below row i, and U's columns from i on reflected
 unfoldable pub columnZeroed : Format → Float → Shape → ℕ → ℕ → Work → Work
 columnZeroed f floor z i j w =
-    let r = columnReflection f floor z i j (w .matrix) in
-    let b = headed z i j r (w .matrix) in
-    elim (eq (r .tau) plusZero) [
-      | true ↦ record { matrix = b; u = w .u; v = w .v }
-      | false ↦
-          record {
-            matrix = reflectedLeft f (r .vector) (r .tau) (z .stride) i (j + 1) (z .rows - i) (z .cols - (j + 1)) b;
-            u = reflectedRight f (r .vector) (r .tau) (z .rows) 0 i (z .urows) (z .rows - i) (w .u);
-            v = w .v;
-          }
-    ]
+    record {
+      matrix = columnMatrix f floor (z .rows) (z .cols) (z .stride) i j (w .matrix);
+      u = factorReflected f (columnReflection f floor (z .rows) (z .stride) i j (w .matrix)) (z .rows) (z .urows) i (w .u);
+      v = w .v;
+    }
 
--- row i cleared right of column j, or left as found where tau is 0; where it is not, the rows below it, and V's columns from j on, take the reflection
+-- row i cleared right of column j, and V's columns from j on reflected
 unfoldable pub rowZeroed : Format → Float → Shape → ℕ → ℕ → Work → Work
 rowZeroed f floor z i j w =
-    let r = reflectionOf f floor (i * z .stride + j) (z .cols - j) (w .matrix) in
-    elim (eq (r .tau) plusZero) [
-      | true ↦ record { matrix = r .entries; u = w .u; v = w .v }
-      | false ↦
-          record {
-            matrix = reflectedRight f (r .vector) (r .tau) (z .stride) (i + 1) j (z .rows - (i + 1)) (z .cols - j) (r .entries);
-            u = w .u;
-            v = reflectedRight f (r .vector) (r .tau) (z .cols) 0 j (z .vrows) (z .cols - j) (w .v);
-          }
-    ]
+    record {
+      matrix = rowMatrix f floor (z .rows) (z .cols) (z .stride) i j (w .matrix);
+      u = w .u;
+      v = factorReflected f (reflectionOf f floor (i * z .stride + j) (z .cols - j) (w .matrix)) (z .cols) (z .vrows) j (w .v);
+    }
 
 -- the upper form clears column k and then row k past the diagonal's right neighbour; the lower form row k and then column k past the one below
 abbrev pub firstZeroed : Format → Float → Shape → Bool → ℕ → Work → Work
@@ -73,3 +89,39 @@ bidiagonal f floor z upper c w =
       | true ↦ s
       | false ↦ firstZeroed f floor z upper (c - 1) s
     ]
+
+-- ---- the cases by tau, each part as the code has it
+
+module _ (f : Format) (floor : Float) (rows cols stride i j : ℕ) (a : List Float) (r : Reflection) where
+  pub column-still :
+      r ≡ columnReflection f floor rows stride i j a → eq (r .tau) plusZero ≡ true → headed r rows stride i j a ≡ columnMatrix f floor rows cols stride i j a
+  unfolding columnMatrix
+  column-still e t = rw e (rw (rw e at t, columnMatrix))
+
+  pub column-moved :
+      r ≡ columnReflection f floor rows stride i j a →
+      eq (r .tau) plusZero ≡ false →
+      reflectedLeft f (r .vector) (r .tau) stride i (j + 1) (rows - i) (cols - (j + 1)) (headed r rows stride i j a) ≡
+      columnMatrix f floor rows cols stride i j a
+  unfolding columnMatrix
+  column-moved e t = rw e (rw (rw e at t, columnMatrix))
+
+  pub row-still : r ≡ reflectionOf f floor (i * stride + j) (cols - j) a → eq (r .tau) plusZero ≡ true → r .entries ≡ rowMatrix f floor rows cols stride i j a
+  unfolding rowMatrix
+  row-still e t = rw e (rw (rw e at t, rowMatrix))
+
+  pub row-moved :
+      r ≡ reflectionOf f floor (i * stride + j) (cols - j) a →
+      eq (r .tau) plusZero ≡ false →
+      reflectedRight f (r .vector) (r .tau) stride (i + 1) j (rows - (i + 1)) (cols - j) (r .entries) ≡ rowMatrix f floor rows cols stride i j a
+  unfolding rowMatrix
+  row-moved e t = rw e (rw (rw e at t, rowMatrix))
+
+module _ (f : Format) (r : Reflection) (n kept i : ℕ) (a : List Float) where
+  pub factor-still : eq (r .tau) plusZero ≡ true → factorReflected f r n kept i a ≡ a
+  unfolding factorReflected
+  factor-still t = rw (t, factorReflected)
+
+  pub factor-moved : eq (r .tau) plusZero ≡ false → factorReflected f r n kept i a ≡ reflectedRight f (r .vector) (r .tau) n 0 i kept (n - i) a
+  unfolding factorReflected
+  factor-moved t = rw (t, factorReflected)
