@@ -12,3 +12,4 @@ pub mod Walk
 pub mod Outcome
 pub mod Defaults
 pub mod Cases
+pub mod Lengths

@@ -1,0 +1,146 @@
+-- Every operation of the method keeps the length of each list. Assumes nothing.
+use mathlib.Core.Path.{_≡_, refl, _∙_}
+use mathlib.Core.Bool.{Bool, true, false, not}
+use mathlib.Core.List.{List}
+use Prim.Native.Nat.{ℕ, _+_, _-_, _*_}
+use lib.Dec.{eqb}
+use lib.ListN.{length, getD, set, length-set}
+use lib.Ieee.{Float, nan, Format, eq}
+use Rattle.method.specs.Floats.{plusZero}
+use Rattle.method.specs.Turns.{turns, turns-keep}
+use Rattle.method.specs.Work.{Work, Shape, packed}
+use Rattle.method.specs.Rotation.{Rotation, rowsTurned-length, columnsTurned-length}
+use Rattle.method.specs.Reflection.{Reflection, blank, reflectionOf, reflectionOf-entries, reflectedRight-length, reflectedLeft-length}
+use Rattle.method.specs.Bidiagonal.{columnReflection, columnCopied, columnCleared, headed, columnMatrix, rowMatrix, factorReflected, columnZeroed, rowZeroed, firstZeroed, thenZeroed, bidiagonal, column-still, column-moved, row-still, row-moved, factor-still, factor-moved}
+use Rattle.method.specs.Chase.{turned, pushed, stepped, swept, firstRotation}
+use Rattle.method.specs.Walk.{Walk, State, run}
+use Rattle.method.specs.Walk.Counts.{held-keeps}
+use Rattle.method.specs.Outcome.{Settings, Outcome, walkedFrom, rulesOf, isUpper, card, accepted, outcome, refusalOf}
+
+-- the three lists of w have the lengths of w₀'s
+pub record SameLengths (w₀ w : Work) : Type 0 where
+  pub matrix : length (w .matrix) ≡ length (w₀ .matrix)
+  pub u : length (w .u) ≡ length (w₀ .u)
+  pub v : length (w .v) ≡ length (w₀ .v)
+
+same : (w : Work) → SameLengths w w
+same w = record { matrix = refl; u = refl; v = refl }
+
+-- one after the other
+pub onward : {a b c : Work} → SameLengths a b → SameLengths b c → SameLengths a c
+onward p q = record { matrix = q .matrix ∙ p .matrix; u = q .u ∙ p .u; v = q .v ∙ p .v }
+
+-- ---- the bidiagonal form
+
+pub columnCopied-length : (stride i j n : ℕ) (a : List Float) → length (columnCopied stride i j n a) ≡ 48
+unfolding columnCopied
+columnCopied-length stride i j n a = turns-keep 0 _ (λ (l : List Float). length l ≡ 48) (λ k l e. simp length-set e) n blank refl
+
+pub columnCleared-length : (stride i j n : ℕ) (a : List Float) → length (columnCleared stride i j n a) ≡ length a
+unfolding columnCleared
+columnCleared-length stride i j n a = turns-keep 0 _ (λ (l : List Float). length l ≡ length a) (λ k l e. simp length-set e) n a refl
+
+module _ (f : Format) (floor : Float) (rows cols stride i j : ℕ) (a : List Float) where
+  headed-length : (r : Reflection) → length (headed r rows stride i j a) ≡ length a
+  headed-length r = simp length-set (columnCleared-length stride i j (rows - i) a)
+
+  pub columnMatrix-length : length (columnMatrix f floor rows cols stride i j a) ≡ length a
+  columnMatrix-length = go (eq (r .tau) plusZero) refl
+    where
+      r : Reflection
+      r = columnReflection f floor rows stride i j a
+
+      go : (t : Bool) → eq (r .tau) plusZero ≡ t → length (columnMatrix f floor rows cols stride i j a) ≡ length a
+      go true e = rw (← column-still f floor rows cols stride i j a r refl e) (headed-length r)
+      go false e = rw (← column-moved f floor rows cols stride i j a r refl e) (reflectedLeft-length f _ _ _ _ _ _ _ _ ∙ headed-length r)
+
+  pub rowMatrix-length : length (rowMatrix f floor rows cols stride i j a) ≡ length a
+  rowMatrix-length = go (eq (r .tau) plusZero) refl
+    where
+      r : Reflection
+      r = reflectionOf f floor (i * stride + j) (cols - j) a
+
+      go : (t : Bool) → eq (r .tau) plusZero ≡ t → length (rowMatrix f floor rows cols stride i j a) ≡ length a
+      go true e = rw (← row-still f floor rows cols stride i j a r refl e) (reflectionOf-entries f floor _ _ a)
+      go false e = rw (← row-moved f floor rows cols stride i j a r refl e) (reflectedRight-length f _ _ _ _ _ _ _ _ ∙ reflectionOf-entries f floor _ _ a)
+
+pub factor-length : (f : Format) (r : Reflection) (n kept i : ℕ) (a : List Float) → length (factorReflected f r n kept i a) ≡ length a
+factor-length f r n kept i a = go (eq (r .tau) plusZero) refl
+  where
+    go : (t : Bool) → eq (r .tau) plusZero ≡ t → length (factorReflected f r n kept i a) ≡ length a
+    go true e = rw (factor-still f r n kept i a e) refl
+    go false e = rw (factor-moved f r n kept i a e) (reflectedRight-length f _ _ _ _ _ _ _ _)
+
+module _ (f : Format) (floor : Float) (z : Shape) where
+  pub columnZeroed-lengths : (i j : ℕ) (w : Work) → SameLengths w (columnZeroed f floor z i j w)
+  unfolding columnZeroed
+  columnZeroed-lengths i j w = record { matrix = columnMatrix-length f floor _ _ _ i j _; u = factor-length f _ _ _ i _; v = refl }
+
+  pub rowZeroed-lengths : (i j : ℕ) (w : Work) → SameLengths w (rowZeroed f floor z i j w)
+  unfolding rowZeroed
+  rowZeroed-lengths i j w = record { matrix = rowMatrix-length f floor _ _ _ i j _; u = refl; v = factor-length f _ _ _ j _ }
+
+  pub first-lengths : (upper : Bool) (k : ℕ) (w : Work) → SameLengths w (firstZeroed f floor z upper k w)
+  first-lengths true k w = columnZeroed-lengths k k w
+  first-lengths false k w = rowZeroed-lengths k k w
+
+  pub then-lengths : (upper : Bool) (k : ℕ) (w : Work) → SameLengths w (thenZeroed f floor z upper k w)
+  then-lengths true k w = rowZeroed-lengths k (k + 1) w
+  then-lengths false k w = columnZeroed-lengths (k + 1) k w
+
+  pub bidiagonal-lengths : (upper : Bool) (c : ℕ) (w : Work) → SameLengths w (bidiagonal f floor z upper c w)
+  unfolding bidiagonal
+  bidiagonal-lengths upper c w = go (eqb (z .rows) (z .cols)) refl
+    where
+      s : Work
+      s = turns 0 (c - 1) (λ k s. thenZeroed f floor z upper k (firstZeroed f floor z upper k s)) w
+
+      down : SameLengths w s
+      down =
+          turns-keep 0 (λ k s. thenZeroed f floor z upper k (firstZeroed f floor z upper k s)) (SameLengths w)
+          (λ k s e. onward e (onward (first-lengths upper k s) (then-lengths upper k _)))
+          (c - 1)
+          w
+          (same w)
+
+      go : (t : Bool) → eqb (z .rows) (z .cols) ≡ t → SameLengths w (bidiagonal f floor z upper c w)
+      go true e = rw (e, bidiagonal) down
+      go false e = rw (e, bidiagonal) (onward down (first-lengths upper (c - 1) s))
+
+-- ---- a sweep
+
+module _ (f : Format) (z : Shape) where
+  pub turned-lengths : (g : Rotation) (byRow : Bool) (i j n : ℕ) (w : Work) → SameLengths w (turned f z g byRow i j n w)
+  unfolding turned
+  turned-lengths g true i j n w = record { matrix = rowsTurned-length f g _ i j n _; u = columnsTurned-length f g _ i 0 _ _; v = refl }
+  turned-lengths g false i j n w = record { matrix = columnsTurned-length f g _ i j n _; u = refl; v = columnsTurned-length f g _ i 0 _ _ }
+
+  pub swept-lengths : (upper : Bool) (k : ℕ) (w : Work) → SameLengths w (swept f z upper k w)
+  unfolding swept
+  swept-lengths upper k w =
+      onward
+      (turns-keep 0 (stepped f z upper) (SameLengths w)
+      (λ l s e. onward e (onward (turned-lengths _ upper l l 3 s) (turned-lengths _ (not upper) (l + 1) l 3 _)))
+      k
+      _
+      (turned-lengths (firstRotation f (z .stride) upper k (w .matrix)) (not upper) 0 0 2 w))
+      (turned-lengths _ upper k k 2 _)
+
+-- ---- a call
+
+pub walkedFrom-lengths : (f : Format) (z : Shape) (rows cols : ℕ) (s : Settings) (w : Work) → SameLengths w (walkedFrom f z rows cols s w .held)
+walkedFrom-lengths f z rows cols s w =
+    held-keeps (rulesOf f z (isUpper rows cols) (s .tolerance) (s .absolute)) (s .limit) (s .credit) (card rows cols) (SameLengths w)
+    (λ r d wide within e. onward e (swept-lengths f z (isUpper rows cols) (r - 2) d))
+    _
+    _
+    (bidiagonal-lengths f (s .floor) z (isUpper rows cols) (card rows cols) w)
+
+-- whatever the input, accepted or refused
+pub outcome-lengths : (f : Format) (kept : Bool) (rows cols : ℕ) (s : Settings) (w : Work) → SameLengths w (outcome f kept rows cols s w .held)
+unfolding outcome accepted
+outcome-lengths f kept rows cols s w = go (eqb (refusalOf kept rows cols s w .number) 0) refl
+  where
+    go : (t : Bool) → eqb (refusalOf kept rows cols s w .number) 0 ≡ t → SameLengths w (outcome f kept rows cols s w .held)
+    go true e = rw (e, outcome) (walkedFrom-lengths f (packed kept rows cols) rows cols s w)
+    go false e = rw (e, outcome) (same w)
