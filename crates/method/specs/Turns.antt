@@ -44,14 +44,17 @@ module _ {S : Type 0} (lo : ℕ) (step : ℕ → S → S) where
     walk zero = p
     walk (suc n) = keeps (lo + n) (go lo step n s) (walk n)
 
--- a map that each turn respects, the whole loop respects
-pub turns-along : {S S′ : Type 0} (F : S → S′) (lo : ℕ) (step : ℕ → S → S) (step′ : ℕ → S′ → S′)
-    → ((k : ℕ) (s : S) → F (step k s) ≡ step′ k (F s)) → (hi : ℕ) (s : S) → F (turns lo hi step s) ≡ turns lo hi step′ (F s)
+-- what each turn of two loops keeps between them, the whole loops keep
+pub turns-alike :
+    {S S′ : Type 0} (R : S → S′ → Type 0) (lo : ℕ) (step : ℕ → S → S) (step′ : ℕ → S′ → S′) →
+    ((k : ℕ) (s : S) (s′ : S′) → R s s′ → R (step k s) (step′ k s′)) →
+    (hi : ℕ) (s : S) (s′ : S′) → R s s′ → R (turns lo hi step s) (turns lo hi step′ s′)
 unfolding turns go
-turns-along F lo step step′ same hi s = walk (hi - lo) where
-  walk : (n : ℕ) → F (go lo step n s) ≡ go lo step′ n (F s)
-  walk zero = refl
-  walk (suc n) = same (lo + n) (go lo step n s) ∙ ap (step′ (lo + n)) (walk n)
+turns-alike R lo step step′ both hi s s′ r = walk (hi - lo)
+  where
+    walk : (n : ℕ) → R (go lo step n s) (go lo step′ n s′)
+    walk zero = r
+    walk (suc n) = both (lo + n) (go lo step n s) (go lo step′ n s′) (walk n)
 
 pub turns-suc : {S : Type 0} (lo : ℕ) (step : ℕ → S → S) (n : ℕ) (s : S) → lo ≤ n → turns lo (suc n) step s ≡ step n (turns lo n step s)
 turns-suc lo step n s h = rw (← add-one) (sym (turns-more lo step n s (turns lo n step s) h refl))

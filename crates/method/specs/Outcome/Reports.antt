@@ -1,0 +1,196 @@
+-- The report is true: what every accepted run reports, that the factors change neither report nor matrix, that a settled answer is the same at every greater
+-- limit, and that at credit 0 each limit shows the state after as many passes. Assumes nothing.
+use mathlib.Core.Path.{_≡_, refl, sym, ap, _∙_}
+use mathlib.Core.Logic.{_⊎_, inl, inr}
+use mathlib.Core.Bool.{Bool, true, false, not}
+use mathlib.Core.List.{List, []}
+use Prim.Native.Nat.{ℕ, _+_, _-_, _*_, _≤_, _<_}
+use native.Mathlib.Nat.{le-of-eq}
+use native.Mathlib.Omega.{arith}
+use lib.Dec.{eqb, leb}
+use borrow.Author.Tests.{eqb-true, eqb-false, eq-eqb, ne-eqb, leb-true, leb-false}
+use lib.Ieee.{Float, Format}
+use Rattle.method.specs.Turns.{turns, turns-alike}
+use Rattle.method.specs.Work.{Work, Shape, work, packed}
+use Rattle.method.specs.Rotation.{Rotation, rotationOf, rowsTurned, columnsTurned}
+use Rattle.method.specs.Bidiagonal.{columnMatrix, rowMatrix, columnZeroed, rowZeroed, firstZeroed, thenZeroed, bidiagonal}
+use Rattle.method.specs.Chase.{along, turned, pushed, stepped, swept, negligible, firstRotation}
+use Rattle.method.specs.Walk.{Walk, State, start, run, enough, walked}
+use Rattle.method.specs.Walk.Counts as Counts
+use Rattle.method.specs.Walk.Limits as Limits
+use Rattle.method.specs.Walk.Alike.{Alike, walked-alike}
+use Rattle.method.specs.Outcome.{Settings, Word, none, settled, stopped, Report, Outcome, card, isUpper, rulesOf, wordOf, reported, walkedFrom, accepted}
+
+-- ---- settled and stopped
+
+pub settled-one : (range : ℕ) → wordOf range ≡ settled → range ≡ 1
+settled-one range e = go (eqb range 1) refl
+  where
+    go : (t : Bool) → eqb range 1 ≡ t → range ≡ 1
+    go true t = eqb-true range 1 t
+    go false t = absurd (let d : stopped ≡ settled = rw t at e in let z : _≡_ {A = ℕ} 0 1 = cc in omega arith)
+
+pub one-settled : (range : ℕ) → range ≡ 1 → wordOf range ≡ settled
+one-settled range e = rw (eq-eqb range 1 e)
+
+pub more-stopped : (range : ℕ) → 1 < range → wordOf range ≡ stopped
+more-stopped range h = rw (ne-eqb range 1 (λ e. omega arith))
+
+-- ---- what every accepted run reports, over a diagonal of c entries
+
+pub record True (s : Settings) (c : ℕ) (r : Report) : Type 0 where
+  pub number : r .number ≡ 0
+  pub place : r .place ≡ 0
+  pub each : r .passes ≡ r .sweeps + r .drops
+  pub drops : r .drops ≡ c - r .range
+  pub range : (1 ≤ r .range) × (r .range ≤ c)
+  pub few : r .passes ≤ s .limit + s .credit * (c - 2)
+  pub none : c ≡ 1 → r .passes ≡ 0
+  pub settled : r .range ≡ 1 → r .word ≡ settled
+  pub stopped : 1 < r .range → r .word ≡ stopped
+
+card-some : (rows cols : ℕ) → 1 ≤ rows → 1 ≤ cols → 1 ≤ card rows cols
+card-some rows cols h g = go (leb cols rows) refl
+  where
+    go : (t : Bool) → leb cols rows ≡ t → 1 ≤ card rows cols
+    go true e = rw e g
+    go false e = rw e h
+
+pub card-most : (rows cols : ℕ) → rows ≤ 48 → cols ≤ 48 → card rows cols ≤ 48
+card-most rows cols h g = go (leb cols rows) refl
+  where
+    go : (t : Bool) → leb cols rows ≡ t → card rows cols ≤ 48
+    go true e = rw e g
+    go false e = rw e h
+
+module _ (f : Format) (kept : Bool) (rows cols : ℕ) (s : Settings) (w : Work) where
+  abbrev ends : State Work
+  ends = walkedFrom f (packed kept rows cols) rows cols s w
+
+  pub accepted-true : 1 ≤ rows → 1 ≤ cols → True s (card rows cols) (accepted f kept rows cols s w .report)
+  unfolding accepted
+  accepted-true h g =
+      let k = Counts.report (rulesOf f (packed kept rows cols) (isUpper rows cols) (s .tolerance) (s .absolute)) (s .limit) (s .credit) (card rows cols) (bidiagonal f (s .floor) (packed kept rows cols) (isUpper rows cols) (card rows cols) w) (card-some rows cols h g) in
+      record {
+        number = refl;
+        place = refl;
+        each = k .each;
+        drops = k .drops;
+        range = k .range;
+        few = k .few;
+        none = λ e. k .none (omega (arith, e));
+        settled = λ e. one-settled (ends .walk .range) e;
+        stopped = λ m. more-stopped (ends .walk .range) m;
+      }
+
+  -- the run has ended by itself: one is left, or the counter is at the limit
+  pub accepted-ended : 1 ≤ rows → 1 ≤ cols → (ends .walk .range ≡ 1) ⊎ (s .limit ≤ ends .walk .counter)
+  accepted-ended h g =
+      let k = Counts.report (rulesOf f (packed kept rows cols) (isUpper rows cols) (s .tolerance) (s .absolute)) (s .limit) (s .credit) (card rows cols) (bidiagonal f (s .floor) (packed kept rows cols) (isUpper rows cols) (card rows cols) w) (card-some rows cols h g) in
+      go (k .end) (k .range .0)
+    where
+      go : (ends .walk .range ≤ 1) ⊎ (s .limit ≤ ends .walk .counter) → 1 ≤ ends .walk .range → (ends .walk .range ≡ 1) ⊎ (s .limit ≤ ends .walk .counter)
+      go (inl l) m = inl (omega arith)
+      go (inr l) m = inr l
+
+-- ---- with the factors kept or not
+
+-- what the matrix becomes turns on the matrix alone
+module _ (f : Format) (rows cols : ℕ) where
+  abbrev plain : Shape
+  plain = packed false rows cols
+
+  abbrev full : Shape
+  full = packed true rows cols
+
+  first-same : (floor : Float) (upper : Bool) (k : ℕ) (w w′ : Work) → w .matrix ≡ w′ .matrix → firstZeroed f floor full upper k w .matrix ≡ firstZeroed f floor plain upper k w′ .matrix
+  unfolding columnZeroed rowZeroed
+  first-same floor true k w w′ e = ap (columnMatrix f floor rows cols cols k k) e
+  first-same floor false k w w′ e = ap (rowMatrix f floor rows cols cols k k) e
+
+  then-same : (floor : Float) (upper : Bool) (k : ℕ) (w w′ : Work) → w .matrix ≡ w′ .matrix → thenZeroed f floor full upper k w .matrix ≡ thenZeroed f floor plain upper k w′ .matrix
+  unfolding columnZeroed rowZeroed
+  then-same floor true k w w′ e = ap (rowMatrix f floor rows cols cols k (k + 1)) e
+  then-same floor false k w w′ e = ap (columnMatrix f floor rows cols cols (k + 1) k) e
+
+  bidiagonal-same : (floor : Float) (upper : Bool) (c : ℕ) (w w′ : Work) → w .matrix ≡ w′ .matrix → bidiagonal f floor full upper c w .matrix ≡ bidiagonal f floor plain upper c w′ .matrix
+  unfolding bidiagonal
+  bidiagonal-same floor upper c w w′ e = go (eqb rows cols) refl
+    where
+      down : Shape → Work → Work
+      down z w = turns 0 (c - 1) (λ k s. thenZeroed f floor z upper k (firstZeroed f floor z upper k s)) w
+
+      same : down full w .matrix ≡ down plain w′ .matrix
+      same =
+          turns-alike (λ (s s′ : Work). s .matrix ≡ s′ .matrix) 0 _ _ (λ k s s′ r. then-same floor upper k _ _ (first-same floor upper k s s′ r)) (c - 1) w w′ e
+
+      go : (t : Bool) → eqb rows cols ≡ t → bidiagonal f floor full upper c w .matrix ≡ bidiagonal f floor plain upper c w′ .matrix
+      go true t = rw (t, bidiagonal) same
+      go false t = rw (t, bidiagonal) (first-same floor upper (c - 1) _ _ same)
+
+  turned-same : (g : Rotation) (byRow : Bool) (i j n : ℕ) (w w′ : Work) → w .matrix ≡ w′ .matrix → turned f full g byRow i j n w .matrix ≡ turned f plain g byRow i j n w′ .matrix
+  unfolding turned
+  turned-same g true i j n w w′ e = ap (rowsTurned f g cols i j n) e
+  turned-same g false i j n w w′ e = ap (columnsTurned f g cols i j n) e
+
+  pushed-same : (byRow : Bool) (i j n : ℕ) (w w′ : Work) → w .matrix ≡ w′ .matrix → pushed f full byRow i j n w .matrix ≡ pushed f plain byRow i j n w′ .matrix
+  pushed-same byRow i j n w w′ e =
+      turned-same _ byRow i j n w w′ e
+      ∙ ap (λ (m : List Float). turned f plain (rotationOf f (along byRow cols i j m) (along byRow cols (i + 1) j m)) byRow i j n w′ .matrix) e
+
+  swept-same : (upper : Bool) (k : ℕ) (w w′ : Work) → w .matrix ≡ w′ .matrix → swept f full upper k w .matrix ≡ swept f plain upper k w′ .matrix
+  unfolding swept
+  swept-same upper k w w′ e =
+      pushed-same upper k k 2 _ _
+      (turns-alike (λ (s s′ : Work). s .matrix ≡ s′ .matrix) 0 (stepped f full upper) (stepped f plain upper)
+      (λ l s s′ r. pushed-same (not upper) (l + 1) l 3 _ _ (pushed-same upper l l 3 s s′ r))
+      k
+      _
+      _
+      (turned-same (firstRotation f cols upper k (w .matrix)) (not upper) 0 0 2 w w′ e
+      ∙ ap (λ (m : List Float). turned f plain (firstRotation f cols upper k m) (not upper) 0 0 2 w′ .matrix) e))
+
+  -- the accumulating and the plain run have the same record, and the same matrix
+  pub agree : (s : Settings) (w w′ : Work) → w .matrix ≡ w′ .matrix → Alike (λ (d d′ : Work). d .matrix ≡ d′ .matrix) (walkedFrom f full rows cols s w) (walkedFrom f plain rows cols s w′)
+  agree s w w′ e =
+      walked-alike (rulesOf f full upper (s .tolerance) (s .absolute)) (rulesOf f plain upper (s .tolerance) (s .absolute)) (s .limit) (s .credit) (card rows cols) (λ (d d′ : Work). d .matrix ≡ d′ .matrix)
+      (record {
+        tests = λ r d d′ wide within e. ap (negligible f (s .tolerance) (s .absolute) cols upper (r - 2)) e;
+        sweeps = λ r d d′ wide within e. swept-same upper (r - 2) d d′ e;
+      })
+      _
+      _
+      (bidiagonal-same (s .floor) upper (card rows cols) w w′ e)
+    where
+      upper : Bool
+      upper = isUpper rows cols
+
+  -- so the two calls report the same and leave the same matrix, however U and V began
+  pub accepted-agree :
+      (s : Settings) (w : Work) →
+      (accepted f true rows cols s w .report ≡ accepted f false rows cols s (work (w .matrix) [] []) .report)
+      × (accepted f true rows cols s w .held .matrix ≡ accepted f false rows cols s (work (w .matrix) [] []) .held .matrix)
+  unfolding accepted
+  accepted-agree s w = let a = agree s w (work (w .matrix) [] []) refl in (ap reported (a .walk), a .held)
+
+-- ---- at a greater limit
+
+abbrev pub atLimit : ℕ → Settings → Settings
+atLimit n s = record { limit = n; credit = s .credit; tolerance = s .tolerance; absolute = s .absolute; floor = s .floor }
+
+module _ (f : Format) (kept : Bool) (rows cols : ℕ) (s : Settings) (w : Work) where
+  -- a settled run is the same run at every greater limit
+  pub accepted-settled : (n : ℕ) → s .limit ≤ n → accepted f kept rows cols s w .report .word ≡ settled → accepted f kept rows cols (atLimit n s) w ≡ accepted f kept rows cols s w
+  unfolding accepted
+  accepted-settled n h e =
+      let z = packed kept rows cols in
+      let q : walkedFrom f z rows cols (atLimit n s) w ≡ walkedFrom f z rows cols s w = Limits.settled (rulesOf f z (isUpper rows cols) (s .tolerance) (s .absolute)) (s .credit) h (card rows cols) _ (le-of-eq (settled-one _ e)) in
+      rw q
+
+  -- at credit 0 the limit k shows the state after k passes: the run of any greater limit n, cut off after k
+  pub accepted-exposed :
+      (k n : ℕ) → k ≤ n → s .credit ≡ 0 →
+      walkedFrom f (packed kept rows cols) rows cols (atLimit k s) w ≡
+      run (rulesOf f (packed kept rows cols) (isUpper rows cols) (s .tolerance) (s .absolute)) n 0 k
+      (start (card rows cols) (bidiagonal f (s .floor) (packed kept rows cols) (isUpper rows cols) (card rows cols) w))
+  accepted-exposed k n h e = rw e (Limits.exposed (rulesOf f (packed kept rows cols) (isUpper rows cols) (s .tolerance) (s .absolute)) h (card rows cols) _)
