@@ -13,6 +13,7 @@ fn main() {
     println!("cargo:rerun-if-changed=build.rs");
     println!("cargo:rerun-if-changed=prepare.rs");
     println!("cargo:rerun-if-env-changed=SOURCE");
+    println!("cargo:rerun-if-env-changed=CARGO_ENCODED_RUSTFLAGS");
     if let Err(message) = build() {
         eprintln!("\nThe original could not be prepared.\n{message}\n");
         process::exit(1);
@@ -47,17 +48,13 @@ fn write(path: &Path, text: &str) -> Result<(), String> {
         .map_err(|error| format!("{}: {error}", path.display()))
 }
 
-/// A product and a sum must round twice. Rust never joins them by itself; that no instruction for
-/// it is switched on makes sure.
+/// A product and a sum must round one after the other. Rust never joins them by itself (a test
+/// looks at what was built); the flags by which a build could be led to do so are refused.
 fn unfused() -> Result<(), String> {
-    let features = env::var("CARGO_CFG_TARGET_FEATURE").unwrap_or_default();
-    match features
-        .split(',')
-        .find(|feature| feature.starts_with("fma"))
-    {
-        Some(feature) => Err(format!(
-            "expected the default target features, found `{feature}`"
-        )),
+    let flags = env::var("CARGO_ENCODED_RUSTFLAGS").unwrap_or_default();
+    let refused = ["target-cpu", "target-feature", "llvm-args"];
+    match refused.iter().find(|flag| flags.contains(**flag)) {
+        Some(flag) => Err(format!("expected no `{flag}` among the flags of rustc")),
         None => Ok(()),
     }
 }

@@ -73,15 +73,31 @@ fn chosen() -> Vec<Case> {
         // The coupling is exactly the absolute bound, then exactly the relative one: no drop.
         case(2, 2, &[2.0, 0.5, 0.0, 1.0], loose(1.0, 0.5)),
         case(2, 2, &[1.0, 0.5, 0.0, 1.0], loose(0.25, 1.0)),
+        // Both ends of the diagonal count in the relative bound.
+        case(2, 2, &[1.0, 0.375, 0.0, 1.0], loose(0.25, 1.0)),
         // Tables that do not settle.
         case(2, 2, &[0.0, 1.0, 0.0, 1.0], walk(12, 50, default)),
         case(3, 3, &[1.0; 9], walk(12, 50, default)),
         // A drop lowers the counter and does not clear it: one pass short, and just enough.
         case(3, 3, &TRIDIAGONAL, walk(4, 1, default)),
         case(3, 3, &TRIDIAGONAL, walk(5, 1, default)),
+        // Two equal magnitudes of unlike sign turn by a negative sine.
+        case(2, 2, &[1.0, 1.0, 0.0, 0.0], walk(3, 1, default)),
         // A radius that overflows, in a row and in a column.
         case(1, 2, &[f64::MAX, -f64::MAX], default),
         case(2, 2, &[f64::MAX, 1.0, f64::MAX, -1.0], walk(4, 1, default)),
+        // The bound is infinity times 0, not a number: the absolute one decides.
+        case(2, 2, &[f64::MAX, 0.0, f64::MAX, 0.0], loose(0.0, 1e-12)),
+        // What is under the root is not a number: 0 is taken for it.
+        case(
+            3,
+            3,
+            &[1.0, 0.0, 0.0, 0.0, f64::MAX, 0.0, 0.0, f64::MAX, 0.0],
+            Settings {
+                limit: 1,
+                ..loose(0.5, 0.0)
+            },
+        ),
     ]
 }
 
