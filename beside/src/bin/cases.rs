@@ -1,0 +1,7 @@
+//! Prints the fixed list of small cases, a line each, as `oracle` reads them.
+
+fn main() {
+    for case in beside::cases::all() {
+        println!("{case}");
+    }
+}

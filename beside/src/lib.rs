@@ -1,0 +1,126 @@
+//! The SVD module of lignum-vitae/spindalis, made runnable: the modules under `reduction` are the
+//! original's own files, changed as prepare.rs says and nowhere else (`CHANGES` is the list).
+
+pub mod cases;
+mod record;
+pub mod text;
+
+/// The original, under the paths by which its files name each other.
+#[rustfmt::skip]
+#[allow(dead_code, unused_imports, clippy::all)]
+pub mod reduction {
+    pub mod matrix {
+        pub mod francis {
+            pub mod constants { include!(concat!(env!("OUT_DIR"), "/francis/constants.rs")); }
+            pub mod givens { include!(concat!(env!("OUT_DIR"), "/francis/givens.rs")); }
+            pub mod primitives { include!(concat!(env!("OUT_DIR"), "/francis/primitives.rs")); }
+        }
+        pub mod svd {
+            pub mod bidiagonalization { include!(concat!(env!("OUT_DIR"), "/svd/bidiagonalization.rs")); }
+            pub mod bulge_chasing { include!(concat!(env!("OUT_DIR"), "/svd/bulge_chasing.rs")); }
+            pub mod interface { include!(concat!(env!("OUT_DIR"), "/svd/interface.rs")); }
+            pub mod primitives { include!(concat!(env!("OUT_DIR"), "/svd/primitives.rs")); }
+            pub mod verify { include!(concat!(env!("OUT_DIR"), "/svd/verify.rs")); }
+        }
+    }
+}
+
+use reduction::matrix::francis::constants;
+use reduction::matrix::svd::interface::{full_svd_decomposition, svd_decomposition};
+
+/// Every line in which the built copies differ from the original.
+pub const CHANGES: &str = include_str!(concat!(env!("OUT_DIR"), "/changes.txt"));
+
+#[derive(Clone, Copy, Debug, PartialEq)]
+pub struct Settings {
+    pub limit: usize,
+    pub credit: usize,
+    pub tolerance: f64,
+    pub absolute: f64,
+    pub floor: f64,
+}
+
+impl Settings {
+    /// The numbers of francis/constants.rs; the original's svd/constants.rs is missing.
+    pub const DEFAULT: Settings = Settings {
+        limit: constants::DEFAULT_MAX_ITERS,
+        credit: constants::MAX_ITERS >> 1,
+        tolerance: constants::DEFAULT_TOLERANCE,
+        absolute: constants::DEFAULT_ABSOLUTE,
+        floor: constants::EPSILON,
+    };
+    /// The same with the floor at the smallest normal number, 2^-1022.
+    pub const LOW_FLOOR: Settings = Settings {
+        floor: f64::MIN_POSITIVE,
+        ..Settings::DEFAULT
+    };
+}
+
+#[derive(Clone, Copy, Debug, PartialEq, Eq)]
+pub enum Word {
+    Settled,
+    Stopped,
+}
+
+#[derive(Clone, Copy, Debug, PartialEq, Eq)]
+pub struct Report {
+    pub word: Word,
+    pub passes: usize,
+    pub sweeps: usize,
+    pub drops: usize,
+    pub range: usize,
+}
+
+/// The plain call of the original, or with U and V the accumulating one, in place.
+pub fn run(
+    rows: usize,
+    cols: usize,
+    matrix: &mut [f64],
+    uv: Option<(&mut [f64], &mut [f64])>,
+    settings: &Settings,
+) -> Report {
+    assert!(rows > 0 && cols > 0, "rows and columns from 1");
+    assert_eq!(matrix.len(), rows * cols, "length of the matrix");
+    let &Settings {
+        limit,
+        credit,
+        tolerance,
+        absolute,
+        floor,
+    } = settings;
+    let card = rows.min(cols);
+    let mut p = vec![0f64; rows.max(cols)];
+    let mut w = vec![0f64; rows.max(cols)];
+
+    record::begin(credit, floor);
+    match uv {
+        None => svd_decomposition(
+            matrix, &mut p, &mut w, rows, cols, card, cols, limit, tolerance, absolute,
+        ),
+        Some((u, v)) => {
+            assert_eq!(u.len(), rows * rows, "length of U");
+            assert_eq!(v.len(), cols * cols, "length of V");
+            full_svd_decomposition(
+                matrix, u, v, &mut p, &mut w, rows, cols, card, cols, limit, tolerance, absolute,
+            );
+        }
+    }
+    let record = record::end();
+    assert_eq!(
+        record.left.is_none(),
+        card == 1,
+        "a walk exactly when there is more than one value"
+    );
+    let range = record.left.unwrap_or(1);
+    Report {
+        word: if range == 1 {
+            Word::Settled
+        } else {
+            Word::Stopped
+        },
+        passes: record.passes,
+        sweeps: record.sweeps,
+        drops: record.drops,
+        range,
+    }
+}

@@ -1,0 +1,156 @@
+//! What is known of the original: the table of cases, and facts measured on it before.
+
+use beside::cases::case;
+use beside::reduction::matrix::francis::givens::implicit_givens_rotation as rotation;
+use beside::reduction::matrix::francis::givens::{apply_g_left, apply_gt_right};
+use beside::reduction::matrix::svd::primitives::singular;
+use beside::text::{Answer, Case, hex, hexes};
+use beside::{Settings, run};
+
+const LOW: Settings = Settings::LOW_FLOOR;
+const DEFAULT: Settings = Settings::DEFAULT;
+
+fn answer(rows: usize, cols: usize, matrix: &[f64], settings: Settings) -> Answer {
+    case(rows, cols, matrix, settings).answer().unwrap()
+}
+
+/// The report as it is printed, and the matrix in hex against the one expected.
+fn expect(answer: &Answer, report: &str, matrix: &[f64]) {
+    assert_eq!(answer.report.to_string(), report);
+    assert_eq!(hexes(&answer.matrix), hexes(matrix));
+}
+
+#[test]
+fn defaults() {
+    let expected = Settings {
+        limit: 100,
+        credit: 50,
+        tolerance: 1e-10,
+        absolute: 1e-12,
+        floor: 1e-21,
+    };
+    assert_eq!(DEFAULT, expected);
+    assert_eq!(hex(LOW.floor), "0010000000000000");
+}
+
+#[test]
+fn roots() {
+    let root = |bits: u64| hex(f64::from_bits(bits).sqrt());
+    assert_eq!(root(0x8000_0000_0000_0000), "8000000000000000");
+    assert_eq!(root(1), hex(2f64.powi(-537)));
+    assert_eq!(root(0x4000_0000_0000_0000), "3FF6A09E667F3BCD");
+    assert_eq!(root(0x3FF0_0000_0000_0001), hex(1.0));
+    assert_eq!(root(0x7FEF_FFFF_FFFF_FFFF), "5FEFFFFFFFFFFFFF");
+}
+
+#[test]
+fn rotations() {
+    assert_eq!(rotation(0.0, 0.0), (0.0, 0.0, 1.0));
+    assert_eq!(rotation(2.0, 0.0), (2.0, 1.0, 0.0));
+    let (radius, cosine, sine) = rotation(3.0, 4.0);
+    assert_eq!(radius, 5.0);
+    assert_eq!(hex(cosine), "3FE3333333333334");
+    assert_eq!(hex(sine), "3FE999999999999A");
+    assert!(rotation(1.0, -1.0).2 < 0.0);
+}
+
+#[test]
+fn singulars() {
+    assert_eq!(singular(2.0, 0.0, 0.0, 1.0), 1.0);
+    assert_eq!(singular(1.0, 0.0, 0.0, 2.0), 4.0);
+}
+
+#[test]
+fn table() {
+    expect(&answer(1, 1, &[-3.0], LOW), "settled 0 0 0 1", &[-3.0]);
+    expect(
+        &answer(1, 2, &[3.0, 4.0], LOW),
+        "settled 0 0 0 1",
+        &[-5.0, 0.0],
+    );
+    let diagonal = answer(2, 2, &[2.0, 0.0, 0.0, 1.0], LOW);
+    expect(&diagonal, "settled 1 0 1 1", &[-2.0, 0.0, 0.0, 1.0]);
+    assert_eq!(
+        hexes(&diagonal.uv.unwrap().0),
+        hexes(&[-1.0, 0.0, 0.0, 1.0])
+    );
+    let zeros = answer(2, 2, &[0.0; 4], Settings { limit: 3, ..LOW });
+    expect(&zeros, "stopped 3 3 0 2", &[0.0; 4]);
+}
+
+#[test]
+fn limit_none() {
+    let none = Settings { limit: 0, ..LOW };
+    let diagonal = answer(2, 2, &[2.0, 0.0, 0.0, 1.0], none);
+    expect(&diagonal, "stopped 0 0 0 2", &[-2.0, 0.0, 0.0, 1.0]);
+    expect(&answer(2, 2, &[0.0; 4], none), "stopped 0 0 0 2", &[0.0; 4]);
+}
+
+#[test]
+fn zeros_turn_both_sides() {
+    let (u, v) = answer(2, 2, &[0.0; 4], Settings { limit: 3, ..LOW })
+        .uv
+        .unwrap();
+    assert_eq!(hexes(&u), hexes(&[-0.0, 1.0, -1.0, -0.0]));
+    assert_eq!(hexes(&v), hexes(&u));
+}
+
+#[test]
+fn floor_decides() {
+    let matrix = [
+        4.0, 0.0, 0.0, 0.0, 4.0, 4.0, 0.0, 3.0, 0.0, 0.0, 0.0, 0.0, 4.0, 4.0, 0.0, 3.0,
+    ];
+    let high = answer(4, 4, &matrix, DEFAULT).report;
+    assert_eq!(high.to_string(), "stopped 100 100 0 4");
+    let low = answer(4, 4, &matrix, LOW).report;
+    assert_eq!((low.passes, low.range), (4, 1));
+    let tail = [0.0, 1e-22];
+    expect(&answer(1, 2, &tail, DEFAULT), "settled 0 0 0 1", &tail);
+    expect(&answer(1, 2, &tail, LOW), "settled 0 0 0 1", &[-1e-22, 0.0]);
+}
+
+#[test]
+fn tables_that_stop() {
+    assert_eq!(answer(2, 2, &[0.0, 1.0, 0.0, 1.0], DEFAULT).report.range, 2);
+    assert!(answer(3, 3, &[1.0; 9], DEFAULT).report.range > 1);
+}
+
+#[test]
+fn survey_of_the_rules() {
+    let line = "2 1 100 50 3DDB7CDFD9D7BDBB 3D719799812DEA11 3B92E3B40A0E9B4F | \
+                4008000000000000 4010000000000000 | - | -";
+    let answer = Case::read(line).unwrap().answer().unwrap();
+    assert_eq!(
+        answer.to_string(),
+        "settled 0 0 0 1 | C014000000000000 0000000000000000 | - | -"
+    );
+}
+
+#[test]
+fn large_table_settles() {
+    let mut seed = 1u64;
+    let mut next = || {
+        seed = seed.wrapping_mul(6_364_136_223_846_793_005).wrapping_add(1);
+        (seed >> 11) as f64 / 2f64.powi(52) - 1.0
+    };
+    let mut matrix: Vec<f64> = (0..48 * 48).map(|_| next()).collect();
+    let report = run(48, 48, &mut matrix, None, &DEFAULT);
+    assert_eq!((report.range, report.drops), (1, 47));
+    assert!((100..160).contains(&report.passes), "{report}");
+}
+
+/// A product and a sum round one after the other. Here a product is 1 + 2^-26 + 2^-54, and the other
+/// takes away 1 + 2^-26: joined with the sum, the first would keep its last part.
+#[test]
+fn nothing_is_fused() {
+    let near = 1.0 + 2f64.powi(-27);
+    let rest = -(1.0 + 2f64.powi(-26));
+    for (table, cosine, sine) in [([near, rest], near, 1.0), ([rest, near], 1.0, near)] {
+        let mut rows = table;
+        apply_g_left(&mut rows, 0, 1, 1, 1, cosine, sine);
+        assert_eq!(rows[0], 0.0);
+        let mut columns = table;
+        apply_gt_right(&mut columns, 0, 1, 2, 1, cosine, sine);
+        assert_eq!(columns[0], 0.0);
+    }
+}
