@@ -1,2 +1,3 @@
 -- The method: what a reader must believe, and what follows from it.
 pub mod Floats
+pub mod Root
