@@ -69,7 +69,8 @@ fn digits(x: u64) -> u64
         bit = bit >> 1;
         rest = rest + rest;
         let step = root + root + bit;
-        if step <= rest {
+        let over = rest + 0x8000_0000_0000_0000 - step;
+        if over >= 0x8000_0000_0000_0000 {
             rest = rest - step;
             root = root + bit;
         }

@@ -27,6 +27,15 @@ add-step c = omega arith
 add-step-2 : tie.Need-add-step-2 Inv-loop μ-loop
 add-step-2 c = omega arith
 
+add-over : tie.Need-add-over Inv-loop μ-loop
+add-over c = omega arith
+
+sub-over : tie.Need-sub-over Inv-loop μ-loop
+sub-over c = omega arith
+
+sub-rest : tie.Need-sub-rest Inv-loop μ-loop
+sub-rest c = omega arith
+
 add-root : tie.Need-add-root Inv-loop μ-loop
 add-root c = omega arith
 
@@ -36,7 +45,7 @@ loop-less c = omega arith
 loop-again : tie.Need-loop-again Inv-loop μ-loop
 loop-again c =
     let at = c .before .before in
-    take (at .before .args .x * 2 ^ 54) (at .loop .root) (at .loop .rest) (at .loop .bit) (at .loop .inv) (c .before .loop-test .taken) (c .if1 .taken)
+    take (at .before .args .x * 2 ^ 54) (at .loop .root) (at .loop .rest) (at .loop .bit) (at .loop .inv) (c .before .loop-test .taken) (omega (arith, c .if1 .taken))
 
 loop-less-2 : tie.Need-loop-less-2 Inv-loop μ-loop
 loop-less-2 c = omega arith
@@ -44,7 +53,7 @@ loop-less-2 c = omega arith
 loop-again-2 : tie.Need-loop-again-2 Inv-loop μ-loop
 loop-again-2 c =
     let at = c .before .before in
-    skip (at .before .args .x * 2 ^ 54) (at .loop .root) (at .loop .rest) (at .loop .bit) (at .loop .inv) (c .before .loop-test .taken) (c .if1 .left)
+    skip (at .before .args .x * 2 ^ 54) (at .loop .root) (at .loop .rest) (at .loop .bit) (at .loop .inv) (c .before .loop-test .taken) (omega (arith, c .if1 .left))
 
 returns : tie.Need-returns Inv-loop μ-loop
 returns c =
@@ -61,6 +70,9 @@ digits-spec =
     add-rest
     add-step
     add-step-2
+    add-over
+    sub-over
+    sub-rest
     add-root
     loop-less
     loop-again
