@@ -56,26 +56,25 @@ pub fn larger(x: f64, y: f64) -> f64
 }
 
 // The whole part of the root of x * 2^54, one binary digit a turn. `bit` is the weight of the last
-// digit that was found, `root` what was found, and `rest * bit` what x * 2^54 is more than its
-// square.
+// digit that was found, `twice` the double of what was found, and `rest * bit` what x * 2^54 is
+// more than its square. Kept as its double, the root is chosen by a select and not by a branch.
 fn digits(x: u64) -> u64
     requires { ⌜ x < 2 ^ 54 ⌝ }
     ensures { λ r. ⌜ (r * r ≤ x * 2 ^ 54) × (x * 2 ^ 54 < (r + 1) * (r + 1)) × (r < 2 ^ 54) ⌝ }
 {
-    let mut root: u64 = 0;
+    let mut twice: u64 = 0;
     let mut rest: u64 = x;
     let mut bit: u64 = 0x40_0000_0000_0000;
     while bit > 1 {
         bit = bit >> 1;
         rest = rest + rest;
-        let step = root + root + bit;
-        let over = rest + 0x8000_0000_0000_0000 - step;
-        if over >= 0x8000_0000_0000_0000 {
+        let step = twice + bit;
+        if step <= rest {
             rest = rest - step;
-            root = root + bit;
+            twice = step + bit;
         }
     }
-    root
+    twice >> 1
 }
 
 // A number of 53 binary digits, and the power of two that it is times.

@@ -10,10 +10,10 @@ use Rattle.float.proofs.digits.Reads as reads
 use Rattle.float.proofs.digits.Lts as lts
 
 abbrev Inv-loop : tie.InvT-loop
-Inv-loop x root₀ rest₀ bit₀ root rest bit = Found (x * 2 ^ 54) root rest bit
+Inv-loop x twice₀ rest₀ bit₀ twice rest bit = Found (x * 2 ^ 54) twice rest bit
 
 abbrev μ-loop : tie.MeasureT-loop
-μ-loop x root₀ rest₀ bit₀ root rest bit = bit
+μ-loop x twice₀ rest₀ bit₀ twice rest bit = bit
 
 loop-holds : tie.Need-loop-holds Inv-loop μ-loop
 loop-holds c = start (c .args .x) (c .pre)
@@ -24,20 +24,8 @@ add-rest c = omega arith
 add-step : tie.Need-add-step Inv-loop μ-loop
 add-step c = omega arith
 
-add-step-2 : tie.Need-add-step-2 Inv-loop μ-loop
-add-step-2 c = omega arith
-
-add-over : tie.Need-add-over Inv-loop μ-loop
-add-over c = omega arith
-
-sub-over : tie.Need-sub-over Inv-loop μ-loop
-sub-over c = omega arith
-
-sub-rest : tie.Need-sub-rest Inv-loop μ-loop
-sub-rest c = omega arith
-
-add-root : tie.Need-add-root Inv-loop μ-loop
-add-root c = omega arith
+add-twice : tie.Need-add-twice Inv-loop μ-loop
+add-twice c = omega arith
 
 loop-less : tie.Need-loop-less Inv-loop μ-loop
 loop-less c = omega arith
@@ -45,7 +33,7 @@ loop-less c = omega arith
 loop-again : tie.Need-loop-again Inv-loop μ-loop
 loop-again c =
     let at = c .before .before in
-    take (at .before .args .x * 2 ^ 54) (at .loop .root) (at .loop .rest) (at .loop .bit) (at .loop .inv) (c .before .loop-test .taken) (omega (arith, c .if1 .taken))
+    take (at .before .args .x * 2 ^ 54) (at .loop .twice) (at .loop .rest) (at .loop .bit) (at .loop .inv) (c .before .loop-test .taken) (c .if1 .taken)
 
 loop-less-2 : tie.Need-loop-less-2 Inv-loop μ-loop
 loop-less-2 c = omega arith
@@ -53,12 +41,12 @@ loop-less-2 c = omega arith
 loop-again-2 : tie.Need-loop-again-2 Inv-loop μ-loop
 loop-again-2 c =
     let at = c .before .before in
-    skip (at .before .args .x * 2 ^ 54) (at .loop .root) (at .loop .rest) (at .loop .bit) (at .loop .inv) (c .before .loop-test .taken) (omega (arith, c .if1 .left))
+    skip (at .before .args .x * 2 ^ 54) (at .loop .twice) (at .loop .rest) (at .loop .bit) (at .loop .inv) (c .before .loop-test .taken) (c .if1 .left)
 
 returns : tie.Need-returns Inv-loop μ-loop
 returns c =
     let at = c .before in
-    done (at .before .args .x * 2 ^ 54) (at .loop .root) (at .loop .rest) (at .loop .bit) (at .loop .inv) (c .loop-test .left)
+    done (at .before .args .x * 2 ^ 54) (at .loop .twice) (at .loop .rest) (at .loop .bit) (at .loop .inv) (c .loop-test .left)
 
 pub digits-spec : {M : Type 1} → statement M
 digits-spec =
@@ -69,11 +57,7 @@ digits-spec =
     loop-holds
     add-rest
     add-step
-    add-step-2
-    add-over
-    sub-over
-    sub-rest
-    add-root
+    add-twice
     loop-less
     loop-again
     loop-less-2
