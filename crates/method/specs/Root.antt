@@ -1,6 +1,13 @@
 -- The square root of IEEE 754, rounded to the nearest value of a format. Definitions only.
 -- A finite value x is `count f x` times the format's smallest value 2 ^ -low. With X for that number, the root of x is √(X * 2 ^ low) of the smallest values.
 -- So a value r, of R smallest values, is below the root, at it or above it as R * R is below X * 2 ^ low, equal to it or above it.
+pub mod Whole
+pub mod Grid
+pub mod Counts
+pub mod Patterns
+pub mod Laws
+pub mod Written
+pub mod Neighbours
 use mathlib.Core.Path.{_≡_}
 use Prim.Native.Nat.{ℕ, zero, suc, _+_, _-_, _*_, _/_, _^_, _<_}
 use mathlib.Core.Bool.{Bool, true, false, cond}

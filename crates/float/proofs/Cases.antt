@@ -1,0 +1,119 @@
+-- `square_root`'s cases by the bit pattern: what the value is, and what its root is. Assumes nothing.
+use mathlib.Core.Path.{_≡_, refl, sym, ap, _∙_, subst}
+use mathlib.Core.Logic.{_⊎_, inl, inr}
+use Prim.Native.Nat.{ℕ, zero, suc, _+_, _-_, _*_, _/_, _%_, _^_, _≤_, _<_}
+use native.Mathlib.Nat.{mod-eq-of-lt, mul-pos, mul-one, one-mul, pow-succ', lt-irrefl}
+use native.Mathlib.Omega.{arith}
+use mathlib.Core.Bool.{Bool, true, false, not, cond, true≢false}
+use lib.IntN.{ℤ, pos, negsuc}
+use lib.Dec.{T, leb, ltb, eqb, eqb→eq, lt→ltb, le→leb}
+use lib.Pow.{pow-pos}
+use lib.Ieee.{Float, nan, inf, fin, Format, binary64, prec, low, up, down, odd, fits, isNan, ofFields, ofBits, toBits, nanBits, ne, div}
+use lib.Ieee.Bits.{ofBits-toBits, is-true, nanBits-is, nanBits-above}
+use lib.Ieee.Compare.{differs-from-itself, nan-differs}
+use lib.Ieee.Positive.{positive}
+use Rattle.method.specs.Root.{count, square, rooted, squareRoot}
+use Rattle.method.specs.Root.Grid.{less-or-not}
+use Rattle.method.specs.Root.Laws.{squareRoot-of}
+use Rattle.method.specs.Root.Patterns.{fieldCount, bits-count}
+use Rattle.float.proofs.Signs.{signed, bits-signed}
+use Rattle.float.proofs.Joined.{bits-positive}
+
+-- ---- the three patterns whose values stay
+stays : (x : Float) (b : ℕ) → T (fits binary64 x) → toBits binary64 x ≡ b → ofBits binary64 b ≡ squareRoot binary64 (ofBits binary64 b) → x ≡ squareRoot binary64 x
+stays x b F e k = subst (λ (y : Float). y ≡ squareRoot binary64 y) (ap (λ (z : ℕ). ofBits binary64 z) (sym e) ∙ ofBits-toBits binary64 x F) k
+
+pub at-zero : (x : Float) → T (fits binary64 x) → toBits binary64 x ≡ 0 → x ≡ squareRoot binary64 x
+unfolding squareRoot ofBits
+at-zero x F e = stays x 0 F e refl
+
+pub at-minus-zero : (x : Float) → T (fits binary64 x) → toBits binary64 x ≡ 2 ^ 63 → x ≡ squareRoot binary64 x
+unfolding squareRoot ofBits
+at-minus-zero x F e = stays x (2 ^ 63) F e refl
+
+pub at-infinity : (x : Float) → T (fits binary64 x) → toBits binary64 x ≡ 2047 * 2 ^ 52 → x ≡ squareRoot binary64 x
+unfolding squareRoot ofBits
+at-infinity x F e = stays x (2047 * 2 ^ 52) F e refl
+
+-- ---- positive
+field-some : (x t : ℕ) → 0 < x * 2 ^ 52 + t → 0 < fieldCount binary64 x t
+field-some zero t h = go t h
+  where
+    go : (t : ℕ) → 0 < 0 * 2 ^ 52 + t → 0 < t
+    go t h = omega arith
+field-some (suc x) t h = mul-pos (go t) (pow-pos x)
+  where
+    go : (t : ℕ) → 0 < 2 ^ 52 + t
+    go t = omega arith
+
+pub at-positive : (x : Float) → T (fits binary64 x) → 0 < toBits binary64 x → toBits binary64 x < 2047 * 2 ^ 52 → rooted binary64 (square binary64 (ofBits binary64 (toBits binary64 x))) ≡ squareRoot binary64 x
+at-positive x F s h =
+    let b = toBits binary64 x in
+    let p : T (positive (ofBits binary64 b)) = bits-positive b h (subst (λ (z : ℕ). 0 < z) (sym (bits-count binary64 b h)) (field-some (b / 2 ^ 52) (b % 2 ^ 52) (go b s))) in
+    sym (squareRoot-of binary64 (ofBits binary64 b) p) ∙ ap (λ (y : Float). squareRoot binary64 y) (ofBits-toBits binary64 x F)
+  where
+    go : (b : ℕ) → 0 < b → 0 < b / 2 ^ 52 * 2 ^ 52 + b % 2 ^ 52
+    go b h = omega arith
+
+pub finite-no-nan : (r : ℕ) → r < 2047 * 2 ^ 52 → T (not (nanBits binary64 r))
+finite-no-nan r h = subst (λ (t : Bool). T (not t)) (sym (nanBits-above binary64 r)) (go r h)
+  where
+    le-no : (a b : ℕ) → b ≤ a → T (not (ltb a b))
+    le-no a b k = lib.Arith.le→nltb a b k
+
+    go : (r : ℕ) → r < 2047 * 2 ^ 52 → T (not (ltb (2047 * 2 ^ 52) (r % 2 ^ 63)))
+    go r k = le-no (2047 * 2 ^ 52) (r % 2 ^ 63) (omega arith)
+
+-- ---- negative
+-- a pattern past the infinity's with a clear sign is a NaN's
+above-is-nan : (b : ℕ) → 2047 * 2 ^ 52 < b → b < 2 ^ 63 → T (not (isNan (ofBits binary64 b))) → ⊥
+above-is-nan b h k n =
+    let t : T (ltb (2047 * 2 ^ 52) (b % 2 ^ 63)) = lt→ltb (2047 * 2 ^ 52) (b % 2 ^ 63) (go b h k) in
+    both (isNan (ofBits binary64 b)) (subst T (sym (nanBits-above binary64 b) ∙ nanBits-is binary64 b) t) n
+  where
+    go : (b : ℕ) → 2047 * 2 ^ 52 < b → b < 2 ^ 63 → 2047 * 2 ^ 52 < b % 2 ^ 63
+    go b p q = omega arith
+
+    both : (a : Bool) → T a → T (not a) → ⊥
+    both true p q = q
+    both false p q = p
+
+two-up : (p : ℕ) → 0 < p → 2 * p ≡ 1 → ⊥
+two-up p h e = omega arith
+
+-- a zero is written with the exponent 0
+flat : (e : ℤ) → up e * down e ≡ 1 → e ≡ pos 0
+flat (pos zero) h = refl
+flat (pos (suc k)) h = absurd (two-up (2 ^ k) (pow-pos k) (sym (pow-succ' 2 k) ∙ sym (mul-one (2 ^ suc k)) ∙ h))
+flat (negsuc k) h = absurd (two-up (2 ^ k) (pow-pos k) (sym (pow-succ' 2 k) ∙ sym (one-mul (2 ^ suc k)) ∙ h))
+
+minus-zero-bits : (e : ℤ) → T (fits binary64 (fin true zero e)) → toBits binary64 (fin true zero e) ≡ 2 ^ 63
+unfolding fits toBits
+minus-zero-bits e F = ap (λ (z : ℤ). toBits binary64 (fin true zero z)) (flat e (eqb→eq (up e * down e) 1 F)) ∙ refl
+
+signed-root : (x : Float) → T (fits binary64 x) → signed x ≡ true → (toBits binary64 x ≡ 2 ^ 63 → ⊥) → nan ≡ squareRoot binary64 x
+unfolding squareRoot
+signed-root nan F s n = refl
+signed-root (inf true) F s n = refl
+signed-root (inf false) F s n = absurd (true≢false (sym s))
+signed-root (fin true zero e) F s n = absurd (n (minus-zero-bits e F))
+signed-root (fin true (suc m) e) F s n = refl
+signed-root (fin false m e) F s n = absurd (true≢false (sym s))
+
+pub at-negative : (x : Float) → T (fits binary64 x) → T (not (isNan x)) → 2047 * 2 ^ 52 < toBits binary64 x → (toBits binary64 x ≡ 2 ^ 63 → ⊥) → nan ≡ squareRoot binary64 x
+at-negative x F n h ne = go (less-or-not (toBits binary64 x) (2 ^ 63))
+  where
+    is : ofBits binary64 (toBits binary64 x) ≡ x
+    is = ofBits-toBits binary64 x F
+
+    n′ : T (not (isNan (ofBits binary64 (toBits binary64 x))))
+    n′ = subst (λ (y : Float). T (not (isNan y))) (sym is) n
+
+    go : (toBits binary64 x < 2 ^ 63) ⊎ (2 ^ 63 ≤ toBits binary64 x) → nan ≡ squareRoot binary64 x
+    go (inl l) = absurd (above-is-nan (toBits binary64 x) h l n′)
+    go (inr g) = signed-root x F (bits-signed x F n ∙ is-true (leb (2 ^ 63) (toBits binary64 x)) (le→leb (2 ^ 63) (toBits binary64 x) g)) ne
+
+-- 0.0 / 0.0, as MIR has it
+pub zero-by-zero : div binary64 (ofBits binary64 0) (ofBits binary64 0) ≡ nan
+unfolding div ofBits
+zero-by-zero = refl
