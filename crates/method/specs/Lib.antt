@@ -4,6 +4,7 @@ pub mod Root
 pub mod Turns
 pub mod Index
 pub mod Rotation
+pub mod Signs
 pub mod Reflection
 pub mod Work
 pub mod Bidiagonal
