@@ -5,6 +5,7 @@ pub mod Turns
 pub mod Index
 pub mod Rotation
 pub mod Signs
+pub mod Finite
 pub mod Reflection
 pub mod Work
 pub mod Bidiagonal
