@@ -11,6 +11,7 @@ pub mod Work
 pub mod Bidiagonal
 pub mod Chase
 pub mod Walk
+pub mod Positions
 pub mod Outcome
 pub mod Defaults
 pub mod Cases
