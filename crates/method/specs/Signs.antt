@@ -1,13 +1,13 @@
 -- Signs (document 005): that the Rust's `apply_gt_right`, which calls `apply_g_right` with the sine negated, turns two columns as Rotation defines it,
 -- for every float and both formats. Laws of the negative of a float, and the two ways of turning side by side. Assumes nothing.
-use mathlib.Core.Path.{_≡_, refl}
+use mathlib.Core.Path.{_≡_, refl, ap, _∙_}
 use mathlib.Core.Bool.{Bool, true, false, not, cond, Bool·not-not}
 use mathlib.Core.List.{List}
 use Prim.Native.Nat.{ℕ, zero, suc, _+_, _*_, _^_}
 use lib.Dec.{ltb, eqb}
 use lib.ListN.{getD, set}
 use lib.Ieee.{Float, nan, inf, fin, Format, prec, emax, low, unlike, up, down, odd, units, round, neg, add, sub, mul}
-use Rattle.method.specs.Turns.{turns, turns-along}
+use Rattle.method.specs.Turns.{turns, turns-alike}
 use Rattle.method.specs.Rotation.{Rotation, pairTurned, columnsTurned}
 
 -- ---- the negative of a float
@@ -89,4 +89,9 @@ pairTurned-back f g p q a = rw (mul-neg-left f (g .sine) (getD a q nan), sub-neg
 pub columnsTurned-back : (f : Format) (g : Rotation) (stride i j n : ℕ) (a : List Float) → columnsTurnedBack f g stride i j n a ≡ columnsTurned f g stride i j n a
 unfolding columnsTurnedBack columnsTurned
 columnsTurned-back f g stride i j n a =
-    turns-along (λ (l : List Float). l) 0 _ _ (λ k l. pairTurned-back f g ((j + k) * stride + i) ((j + k) * stride + (i + 1)) l) n a
+    turns-alike (λ (l l′ : List Float). l ≡ l′) 0 _ _
+    (λ k l l′ e. pairTurned-back f g ((j + k) * stride + i) ((j + k) * stride + (i + 1)) l ∙ ap (pairTurned f g ((j + k) * stride + i) ((j + k) * stride + (i + 1))) e)
+    n
+    a
+    a
+    refl
