@@ -11,7 +11,7 @@ use lib.Dec.{leb, ltb, eqb}
 use lib.ListN.{length, take, drop, getD}
 use lib.Ieee.{Float, nan, lt, Format}
 use lib.Ieee.Scale.{finite}
-use borrow.Author.Tests.{ltb-true, lt-ltb, leb-true, le-leb, eqb-true, eq-eqb, ne-eqb}
+use borrow.Author.Tests.{ltb-true, ltb-false, lt-ltb, leb-true, le-leb, eqb-true, eq-eqb, ne-eqb}
 use Rattle.method.specs.Floats.{plusZero, pick}
 use Rattle.method.specs.Work.{Work}
 use Rattle.method.specs.Outcome.{Settings, Check, Refusal, refusal, firstOf, firstBad, boundFit, floorFit, checks, refusalOf}
@@ -141,3 +141,189 @@ first-is (suc i) m (c ∷ cs) (A ∷ As) s r = go (c .fails) refl (first-is i (c
       λ e. let y = ih .0 (rw (first-miss c cs t) at e) in (y .0, (denies (s .0) t, y .1)),
       λ x. rw (first-miss c cs t) (ih .1 (x .0, x .1 .1)),
     )
+
+-- ---- the first bad reading
+
+-- where a search for a reading that is infinite or NaN stands when it ends: all before are finite, and the one there, if any, is not
+pub record Searched (xs : List Float) (n : ℕ) : Type 0 where
+  pub most : n ≤ length xs
+  pub before : (k : ℕ) → k < n → finite (getD xs k nan) ≡ true
+  pub bad : n < length xs → finite (getD xs n nan) ≡ false
+
+-- `firstBad` is where the search ends
+pub firstBad-searched : (xs : List Float) → Searched xs (firstBad xs)
+unfolding firstBad
+firstBad-searched [] = record { most = omega arith; before = λ k h. absurd (not-suc-le-zero h); bad = λ h. absurd (not-suc-le-zero h) }
+firstBad-searched (x ∷ xs) = go (finite x) refl (firstBad-searched xs)
+  where
+    go : (b : Bool) → finite x ≡ b → Searched xs (firstBad xs) → Searched (x ∷ xs) (firstBad (x ∷ xs))
+    go true t s =
+        rw (t, firstBad)
+        record {
+          most = omega (arith, s .most);
+          before = λ k h. walk k h;
+          bad = λ h. s .bad (le-of-suc-le-suc h);
+        }
+      where
+        walk : (k : ℕ) → k < suc (firstBad xs) → finite (getD (x ∷ xs) k nan) ≡ true
+        walk zero h = t
+        walk (suc k) h = s .before k (le-of-suc-le-suc h)
+    go false t s = rw (t, firstBad) record { most = omega arith; before = λ k h. absurd (not-suc-le-zero h); bad = λ h. t }
+
+-- `firstBad` is below or at every bad reading
+firstBad-least : (xs : List Float) (n : ℕ) → finite (getD xs n nan) ≡ false → firstBad xs ≤ n
+firstBad-least xs n e = go (ltb n (firstBad xs)) refl
+  where
+    go : (b : Bool) → ltb n (firstBad xs) ≡ b → firstBad xs ≤ n
+    go true t = absurd (true≢false (sym (firstBad-searched xs .before n (ltb-true n (firstBad xs) t)) ∙ e))
+    go false t = ltb-false n (firstBad xs) t
+
+-- a reading that is not finite, with finite ones before it, is the first bad one
+pub firstBad-at : (xs : List Float) (n : ℕ) → ((k : ℕ) → k < n → finite (getD xs k nan) ≡ true) → n < length xs → finite (getD xs n nan) ≡ false → firstBad xs ≡ n
+firstBad-at xs n before h e = go (ltb (firstBad xs) n) refl
+  where
+    go : (b : Bool) → ltb (firstBad xs) n ≡ b → firstBad xs ≡ n
+    go true t =
+        let i : firstBad xs < n = ltb-true (firstBad xs) n t in
+        absurd (true≢false (sym (before (firstBad xs) i) ∙ firstBad-searched xs .bad (omega arith)))
+    go false t = omega (arith, ltb-false (firstBad xs) n t, firstBad-least xs n e)
+
+-- where every reading is finite, `firstBad` is their count
+pub firstBad-none : (xs : List Float) → ((k : ℕ) → k < length xs → finite (getD xs k nan) ≡ true) → firstBad xs ≡ length xs
+firstBad-none xs all = go (ltb (firstBad xs) (length xs)) refl
+  where
+    go : (b : Bool) → ltb (firstBad xs) (length xs) ≡ b → firstBad xs ≡ length xs
+    go true t =
+        let i : firstBad xs < length xs = ltb-true (firstBad xs) (length xs) t in
+        absurd (true≢false (sym (all (firstBad xs) i) ∙ firstBad-searched xs .bad i))
+    go false t = omega (arith, ltb-false (firstBad xs) (length xs) t, firstBad-searched xs .most)
+
+-- ---- the conditions of the table
+
+-- 1: rows or columns is 0
+abbrev pub NoSize : ℕ → ℕ → Type 0
+NoSize rows cols = (rows ≡ 0) ⊎ (cols ≡ 0)
+
+-- 2: rows or columns above 48
+abbrev pub TooLarge : ℕ → ℕ → Type 0
+TooLarge rows cols = (48 < rows) ⊎ (48 < cols)
+
+-- 3: the matrix's length is not rows x columns
+abbrev pub WrongMatrix : ℕ → ℕ → Work → Type 0
+WrongMatrix rows cols w = ¬ (length (w .matrix) ≡ rows * cols)
+
+-- 4: the factors are kept, and U's length is not rows x rows
+abbrev pub WrongU : Bool → ℕ → Work → Type 0
+WrongU kept rows w = (kept ≡ true) × (¬ (length (w .u) ≡ rows * rows))
+
+-- 5: the factors are kept, and V's length is not columns x columns
+abbrev pub WrongV : Bool → ℕ → Work → Type 0
+WrongV kept cols w = (kept ≡ true) × (¬ (length (w .v) ≡ cols * cols))
+
+-- 6: limit or credit above its maximum
+abbrev pub OverLimit : Settings → Type 0
+OverLimit s = (100000 < s .limit) ⊎ (1000 < s .credit)
+
+-- 7: tolerance, absolute or floor not allowed
+abbrev pub UnfitBounds : Settings → Type 0
+UnfitBounds s = (boundFit (s .tolerance) ≡ false) ⊎ (boundFit (s .absolute) ≡ false) ⊎ (floorFit (s .floor) ≡ false)
+
+-- a tolerance or an absolute bound is allowed exactly when it is finite and not below zero
+pub bound-allowed : (x : Float) → (boundFit x ≡ true) ↔ ((finite x ≡ true) × (lt x plusZero ≡ false))
+bound-allowed x = both (holds (finite x)) (lacks (lt x plusZero))
+
+-- a floor is allowed exactly when it is finite and above zero
+pub floor-allowed : (x : Float) → (floorFit x ≡ true) ↔ ((finite x ≡ true) × (lt plusZero x ≡ true))
+floor-allowed x = both (holds (finite x)) (holds (lt plusZero x))
+
+-- 8: a reading is infinite or NaN
+pub record BadReading (xs : List Float) : Type 0 where
+  pub at : ℕ
+  pub inside : at < length xs
+  pub bad : finite (getD xs at nan) ≡ false
+
+bad-reading : (xs : List Float) → Says (ltb (firstBad xs) (length xs)) (BadReading xs)
+bad-reading xs = (
+  λ e. let i = ltb-true (firstBad xs) (length xs) e in record { at = firstBad xs; inside = i; bad = firstBad-searched xs .bad i },
+  λ x. lt-ltb (firstBad xs) (length xs) (omega (arith, firstBad-least xs (x .at) (x .bad), x .inside)),
+)
+
+-- the eight in their order
+abbrev pub conditions : Bool → ℕ → ℕ → Settings → Work → List (Type 0)
+conditions kept rows cols s w =
+    NoSize rows cols
+    ∷ TooLarge rows cols
+    ∷ WrongMatrix rows cols w
+    ∷ WrongU kept rows w
+    ∷ WrongV kept cols w
+    ∷ OverLimit s
+    ∷ UnfitBounds s
+    ∷ BadReading (w .matrix)
+    ∷ []
+
+-- none of the first n conditions holds
+abbrev pub Past : ℕ → Bool → ℕ → ℕ → Settings → Work → Type 0
+Past n kept rows cols s w = None (take n (conditions kept rows cols s w))
+
+-- ---- the table
+
+-- each number is given exactly when its condition holds and none of the earlier ones does, and 0 exactly when none of the eight holds
+pub record Numbers (kept : Bool) (rows cols : ℕ) (s : Settings) (w : Work) : Type 0 where
+  pub one : (refusalOf kept rows cols s w .number ≡ 1) ↔ (NoSize rows cols × Past 0 kept rows cols s w)
+  pub two : (refusalOf kept rows cols s w .number ≡ 2) ↔ (TooLarge rows cols × Past 1 kept rows cols s w)
+  pub three : (refusalOf kept rows cols s w .number ≡ 3) ↔ (WrongMatrix rows cols w × Past 2 kept rows cols s w)
+  pub four : (refusalOf kept rows cols s w .number ≡ 4) ↔ (WrongU kept rows w × Past 3 kept rows cols s w)
+  pub five : (refusalOf kept rows cols s w .number ≡ 5) ↔ (WrongV kept cols w × Past 4 kept rows cols s w)
+  pub six : (refusalOf kept rows cols s w .number ≡ 6) ↔ (OverLimit s × Past 5 kept rows cols s w)
+  pub seven : (refusalOf kept rows cols s w .number ≡ 7) ↔ (UnfitBounds s × Past 6 kept rows cols s w)
+  pub eight : (refusalOf kept rows cols s w .number ≡ 8) ↔ (BadReading (w .matrix) × Past 7 kept rows cols s w)
+  pub accepted : (refusalOf kept rows cols s w .number ≡ 0) ↔ Past 8 kept rows cols s w
+
+module _ (kept : Bool) (rows cols : ℕ) (s : Settings) (w : Work) where
+  -- each test says its condition
+  tests : Means (checks kept rows cols s w) (conditions kept rows cols s w)
+  tests = (
+    either (same rows 0) (same cols 0),
+    (
+      either (less 48 rows) (less 48 cols),
+      (
+        nor (same (length (w .matrix)) (rows * cols)),
+        (
+          both (holds kept) (nor (same (length (w .u)) (rows * rows))),
+          (
+            both (holds kept) (nor (same (length (w .v)) (cols * cols))),
+            (
+              either (less 100000 (s .limit)) (less 1000 (s .credit)),
+              (
+                notAll (boundFit (s .tolerance)) (boundFit (s .absolute)) (floorFit (s .floor)),
+                (
+                  bad-reading (w .matrix),
+                  tt,
+                ),
+              ),
+            ),
+          ),
+        ),
+      ),
+    ),
+  )
+
+  answers :
+      (i : ℕ) →
+      (refusalOf kept rows cols s w .number ≡ numberAt (checks kept rows cols s w) i) ↔
+      (getD (conditions kept rows cols s w) i (Unit {0}) × Past i kept rows cols s w)
+  answers i = first-is i 0 (checks kept rows cols s w) (conditions kept rows cols s w) tests refl
+
+  pub numbers : Numbers kept rows cols s w
+  numbers =
+      record {
+        one = answers 0;
+        two = answers 1;
+        three = answers 2;
+        four = answers 3;
+        five = answers 4;
+        six = answers 5;
+        seven = answers 6;
+        eight = answers 7;
+        accepted = (λ e. answers 8 .0 e .1, λ x. answers 8 .1 (tt, x));
+      }
