@@ -142,6 +142,21 @@ first-is (suc i) m (c ∷ cs) (A ∷ As) s r = go (c .fails) refl (first-is i (c
       λ x. rw (first-miss c cs t) (ih .1 (x .0, x .1 .1)),
     )
 
+-- what holds of no refusal and of each check's refusal holds of the first
+module _ (P : Refusal → Type 0) where
+  abbrev Every : List Check → Type 0
+  Every [] = P (refusal 0 0)
+  Every (c ∷ cs) = P (refusal (c .number) (c .place)) × Every cs
+
+  first-keeps : (cs : List Check) → Every cs → P (firstOf cs)
+  unfolding firstOf
+  first-keeps [] p = p
+  first-keeps (c ∷ cs) p = go (c .fails) refl (first-keeps cs (p .1))
+    where
+      go : (b : Bool) → c .fails ≡ b → P (firstOf cs) → P (firstOf (c ∷ cs))
+      go true t ih = rw (first-hit c cs t) (p .0)
+      go false t ih = rw (first-miss c cs t) ih
+
 -- ---- the first bad reading
 
 -- where a search for a reading that is infinite or NaN stands when it ends: all before are finite, and the one there, if any, is not
@@ -269,7 +284,7 @@ Past n kept rows cols s w = None (take n (conditions kept rows cols s w))
 
 -- each number is given exactly when its condition holds and none of the earlier ones does, and 0 exactly when none of the eight holds
 pub record Numbers (kept : Bool) (rows cols : ℕ) (s : Settings) (w : Work) : Type 0 where
-  pub one : (refusalOf kept rows cols s w .number ≡ 1) ↔ (NoSize rows cols × Past 0 kept rows cols s w)
+  pub one : (refusalOf kept rows cols s w .number ≡ 1) ↔ NoSize rows cols
   pub two : (refusalOf kept rows cols s w .number ≡ 2) ↔ (TooLarge rows cols × Past 1 kept rows cols s w)
   pub three : (refusalOf kept rows cols s w .number ≡ 3) ↔ (WrongMatrix rows cols w × Past 2 kept rows cols s w)
   pub four : (refusalOf kept rows cols s w .number ≡ 4) ↔ (WrongU kept rows w × Past 3 kept rows cols s w)
@@ -317,7 +332,7 @@ module _ (kept : Bool) (rows cols : ℕ) (s : Settings) (w : Work) where
   pub numbers : Numbers kept rows cols s w
   numbers =
       record {
-        one = answers 0;
+        one = (λ e. answers 0 .0 e .0, λ x. answers 0 .1 (x, tt));
         two = answers 1;
         three = answers 2;
         four = answers 3;
@@ -327,3 +342,29 @@ module _ (kept : Bool) (rows cols : ℕ) (s : Settings) (w : Work) where
         eight = answers 7;
         accepted = (λ e. answers 8 .0 e .1, λ x. answers 8 .1 (tt, x));
       }
+
+-- ---- the place
+
+-- place n is that of the first bad reading: it is inside, the reading there is not finite, and every reading before it is
+pub record FirstBadAt (xs : List Float) (n : ℕ) : Type 0 where
+  pub inside : n < length xs
+  pub bad : finite (getD xs n nan) ≡ false
+  pub before : (k : ℕ) → k < n → finite (getD xs k nan) ≡ true
+
+module _ (kept : Bool) (rows cols : ℕ) (s : Settings) (w : Work) where
+  -- the place is `firstBad` with number 8, and 0 with any other
+  place-is : refusalOf kept rows cols s w .place ≡ pick (eqb (refusalOf kept rows cols s w .number) 8) (firstBad (w .matrix)) 0
+  place-is =
+      first-keeps (λ r. r .place ≡ pick (eqb (r .number) 8) (firstBad (w .matrix)) 0) (checks kept rows cols s w)
+      (refl, (refl, (refl, (refl, (refl, (refl, (refl, (refl, refl))))))))
+
+  -- where the number is 8, the place is that of the first bad reading
+  pub place-eight : refusalOf kept rows cols s w .number ≡ 8 → FirstBadAt (w .matrix) (refusalOf kept rows cols s w .place)
+  place-eight e =
+      let p : refusalOf kept rows cols s w .place ≡ firstBad (w .matrix) = rw (eq-eqb _ 8 e) at place-is in
+      let i : firstBad (w .matrix) < length (w .matrix) = ltb-true _ _ (bad-reading (w .matrix) .1 (numbers kept rows cols s w .eight .0 e .0)) in
+      rw p record { inside = i; bad = firstBad-searched (w .matrix) .bad i; before = firstBad-searched (w .matrix) .before }
+
+  -- where the number is not 8, the place is 0
+  pub place-other : ¬ (refusalOf kept rows cols s w .number ≡ 8) → refusalOf kept rows cols s w .place ≡ 0
+  place-other h = rw (ne-eqb _ 8 h) at place-is
