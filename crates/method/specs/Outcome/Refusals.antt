@@ -11,10 +11,11 @@ use lib.Dec.{leb, ltb, eqb}
 use lib.ListN.{length, take, drop, getD}
 use lib.Ieee.{Float, nan, lt, Format}
 use lib.Ieee.Scale.{finite}
-use borrow.Author.Tests.{ltb-true, ltb-false, lt-ltb, leb-true, le-leb, eqb-true, eq-eqb, ne-eqb}
+use borrow.Author.Tests.{ltb-true, ltb-false, lt-ltb, leb-true, le-leb, eqb-true, eqb-false, eq-eqb, ne-eqb}
 use Rattle.method.specs.Floats.{plusZero, pick}
 use Rattle.method.specs.Work.{Work}
-use Rattle.method.specs.Outcome.{Settings, Check, Refusal, refusal, firstOf, firstBad, boundFit, floorFit, checks, refusalOf}
+use Rattle.method.specs.Outcome.{Settings, Outcome, outcomeOf, Check, check, Refusal, refusal, firstOf, firstBad, boundFit, floorFit, checks, refused, accepted, refusalOf, outcome, identity, filled, fillNumber, fillOutcome, rowOf, viewFit, rowViewed}
+use Rattle.method.specs.Index.{row-below}
 
 -- ---- a test and what it says
 
@@ -368,3 +369,70 @@ module _ (kept : Bool) (rows cols : ℕ) (s : Settings) (w : Work) where
   -- where the number is not 8, the place is 0
   pub place-other : ¬ (refusalOf kept rows cols s w .number ≡ 8) → refusalOf kept rows cols s w .place ≡ 0
   place-other h = rw (ne-eqb _ 8 h) at place-is
+
+-- ---- what the call then does
+
+module _ (f : Format) (kept : Bool) (rows cols : ℕ) (s : Settings) (w : Work) where
+  -- a refusal leaves every list as it was, and carries its number, its place and the word `none` alone
+  pub refused-outcome : ¬ (refusalOf kept rows cols s w .number ≡ 0) → outcome f kept rows cols s w ≡ outcomeOf (refused (refusalOf kept rows cols s w)) w
+  unfolding outcome
+  refused-outcome h = rw (ne-eqb (refusalOf kept rows cols s w .number) 0 h, outcome)
+
+  -- without a refusal the outcome is that of the accepted run
+  pub accepted-outcome : refusalOf kept rows cols s w .number ≡ 0 → outcome f kept rows cols s w ≡ accepted f kept rows cols s w
+  unfolding outcome
+  accepted-outcome e = rw (eq-eqb (refusalOf kept rows cols s w .number) 0 e, outcome)
+
+  -- an accepted run reports number 0
+  pub accepted-number : accepted f kept rows cols s w .report .number ≡ 0
+  unfolding accepted
+  accepted-number = refl
+
+  -- the number that a call reports is the refusal's, always
+  pub outcome-number : outcome f kept rows cols s w .report .number ≡ refusalOf kept rows cols s w .number
+  outcome-number = go (eqb (refusalOf kept rows cols s w .number) 0) refl
+    where
+      go : (b : Bool) → eqb (refusalOf kept rows cols s w .number) 0 ≡ b → outcome f kept rows cols s w .report .number ≡ refusalOf kept rows cols s w .number
+      go true t = let e = eqb-true (refusalOf kept rows cols s w .number) 0 t in rw (accepted-outcome e) (accepted-number ∙ sym e)
+      go false t = rw (refused-outcome (eqb-false (refusalOf kept rows cols s w .number) 0 t))
+
+-- what an acceptance tells of sizes, lengths and counts
+pub record Fit (kept : Bool) (rows cols : ℕ) (s : Settings) (w : Work) : Type 0 where
+  pub rows-some : 1 ≤ rows
+  pub cols-some : 1 ≤ cols
+  pub rows-few : rows ≤ 48
+  pub cols-few : cols ≤ 48
+  pub matrix-length : length (w .matrix) ≡ rows * cols
+  pub u-length : kept ≡ true → length (w .u) ≡ rows * rows
+  pub v-length : kept ≡ true → length (w .v) ≡ cols * cols
+  pub limit-low : s .limit ≤ 100000
+  pub credit-low : s .credit ≤ 1000
+
+-- what is left where a condition on two numbers does not hold
+some : (n : ℕ) → ¬ (n ≡ 0) → 1 ≤ n
+some n h = omega arith
+
+few : (m n : ℕ) → ¬ (m < n) → n ≤ m
+few m n h = omega arith
+
+equal : (m n : ℕ) → ¬ (¬ (m ≡ n)) → m ≡ n
+equal m n h = go (eqb m n) refl
+  where
+    go : (b : Bool) → eqb m n ≡ b → m ≡ n
+    go true t = eqb-true m n t
+    go false t = absurd (h (eqb-false m n t))
+
+pub fit : (kept : Bool) (rows cols : ℕ) (s : Settings) (w : Work) → refusalOf kept rows cols s w .number ≡ 0 → Fit kept rows cols s w
+fit kept rows cols s w e =
+    let p : Past 8 kept rows cols s w = numbers kept rows cols s w .accepted .0 e in
+    record {
+      rows-some = some rows (λ z. p .0 (inl z));
+      cols-some = some cols (λ z. p .0 (inr z));
+      rows-few = few 48 rows (λ l. p .1 .0 (inl l));
+      cols-few = few 48 cols (λ l. p .1 .0 (inr l));
+      matrix-length = equal (length (w .matrix)) (rows * cols) (p .1 .1 .0);
+      u-length = λ k. equal (length (w .u)) (rows * rows) (λ n. p .1 .1 .1 .0 (k, n));
+      v-length = λ k. equal (length (w .v)) (cols * cols) (λ n. p .1 .1 .1 .1 .0 (k, n));
+      limit-low = few 100000 (s .limit) (λ l. p .1 .1 .1 .1 .1 .0 (inl l));
+      credit-low = few 1000 (s .credit) (λ l. p .1 .1 .1 .1 .1 .0 (inr l));
+    }
