@@ -7,7 +7,7 @@ use mathlib.Core.List.{List, [], _∷_}
 use Prim.Native.Nat.{ℕ, zero, suc, _+_, _-_, _*_, _≤_, _<_}
 use native.Mathlib.Nat.{le-of-suc-le-suc, not-suc-le-zero}
 use native.Mathlib.Omega.{arith}
-use lib.Dec.{leb, ltb, eqb}
+use lib.Dec.{leb, ltb, eqb, lit≤}
 use lib.ListN.{length, take, drop, getD}
 use lib.Ieee.{Float, nan, lt, Format}
 use lib.Ieee.Scale.{finite}
@@ -283,7 +283,7 @@ Past n kept rows cols s w = None (take n (conditions kept rows cols s w))
 
 -- ---- the table
 
--- each number is given exactly when its condition holds and none of the earlier ones does, and 0 exactly when none of the eight holds
+-- each number is given exactly when its condition holds and none of the earlier ones does, 0 exactly when none of the eight holds, and no other number is
 pub record Numbers (kept : Bool) (rows cols : ℕ) (s : Settings) (w : Work) : Type 0 where
   pub one : (refusalOf kept rows cols s w .number ≡ 1) ↔ NoSize rows cols
   pub two : (refusalOf kept rows cols s w .number ≡ 2) ↔ (TooLarge rows cols × Past 1 kept rows cols s w)
@@ -294,6 +294,7 @@ pub record Numbers (kept : Bool) (rows cols : ℕ) (s : Settings) (w : Work) : T
   pub seven : (refusalOf kept rows cols s w .number ≡ 7) ↔ (UnfitBounds s × Past 6 kept rows cols s w)
   pub eight : (refusalOf kept rows cols s w .number ≡ 8) ↔ (BadReading (w .matrix) × Past 7 kept rows cols s w)
   pub accepted : (refusalOf kept rows cols s w .number ≡ 0) ↔ Past 8 kept rows cols s w
+  pub most : refusalOf kept rows cols s w .number ≤ 8
 
 module _ (kept : Bool) (rows cols : ℕ) (s : Settings) (w : Work) where
   -- each test says its condition
@@ -342,6 +343,7 @@ module _ (kept : Bool) (rows cols : ℕ) (s : Settings) (w : Work) where
         seven = answers 6;
         eight = answers 7;
         accepted = (λ e. answers 8 .0 e .1, λ x. answers 8 .1 (tt, x));
+        most = first-keeps (λ r. r .number ≤ 8) (checks kept rows cols s w) (lit≤ tt, (lit≤ tt, (lit≤ tt, (lit≤ tt, (lit≤ tt, (lit≤ tt, (lit≤ tt, (lit≤ tt, lit≤ tt))))))));
       }
 
 -- ---- the place
@@ -436,3 +438,64 @@ fit kept rows cols s w e =
       limit-low = few 100000 (s .limit) (λ l. p .1 .1 .1 .1 .1 .0 (inl l));
       credit-low = few 1000 (s .credit) (λ l. p .1 .1 .1 .1 .1 .0 (inr l));
     }
+
+-- ---- the identity fill
+
+-- n from 1 to 48, and a list of n x n
+pub record FillFit (n : ℕ) (a : List Float) : Type 0 where
+  pub some : 1 ≤ n
+  pub few : n ≤ 48
+  pub whole : length a ≡ n * n
+
+-- the fill's three conditions: n is 0, n is above 48, the length is not n x n
+abbrev pub fillConditions : ℕ → List Float → List (Type 0)
+fillConditions n a = (n ≡ 0) ∷ (48 < n) ∷ (¬ (length a ≡ n * n)) ∷ []
+
+-- 1, 2 and 4 are given each exactly when its condition holds and none of the earlier ones does, 0 exactly when size and length are fit, and no other number is
+pub record FillNumbers (n : ℕ) (a : List Float) : Type 0 where
+  pub one : (fillNumber n a ≡ 1) ↔ (n ≡ 0)
+  pub two : (fillNumber n a ≡ 2) ↔ (48 < n)
+  pub four : (fillNumber n a ≡ 4) ↔ ((¬ (length a ≡ n * n)) × None (take 2 (fillConditions n a)))
+  pub accepted : (fillNumber n a ≡ 0) ↔ FillFit n a
+  pub only : (fillNumber n a ≡ 0) ⊎ (fillNumber n a ≡ 1) ⊎ (fillNumber n a ≡ 2) ⊎ (fillNumber n a ≡ 4)
+
+module _ (n : ℕ) (a : List Float) where
+  -- the checks behind `fillNumber`
+  abbrev fillChecks : List Check
+  fillChecks = check 1 (eqb n 0) 0 ∷ check 2 (ltb 48 n) 0 ∷ check 4 (not (eqb (length a) (n * n))) 0 ∷ []
+
+  fill-answers : (i : ℕ) → (fillNumber n a ≡ numberAt fillChecks i) ↔ (getD (fillConditions n a) i (Unit {0}) × None (take i (fillConditions n a)))
+  fill-answers i = first-is i 0 fillChecks (fillConditions n a) (same n 0, (less 48 n, (nor (same (length a) (n * n)), tt))) refl
+
+  pub fill-numbers : FillNumbers n a
+  fill-numbers =
+      record {
+        one = (λ e. fill-answers 0 .0 e .0, λ x. fill-answers 0 .1 (x, tt));
+        two = (λ e. fill-answers 1 .0 e .0, λ x. fill-answers 1 .1 (x, (λ z. omega arith, tt)));
+        four = fill-answers 2;
+        accepted = (
+          λ e. let p = fill-answers 3 .0 e .1 in record { some = some n (p .0); few = few 48 n (p .1 .0); whole = equal (length a) (n * n) (p .1 .1 .0) },
+          λ x. fill-answers 3 .1 (tt, (λ z. omega (arith, x .some), (λ l. omega (arith, x .few), (λ f. f (x .whole), tt)))),
+        );
+        only =
+            first-keeps (λ r. (r .number ≡ 0) ⊎ (r .number ≡ 1) ⊎ (r .number ≡ 2) ⊎ (r .number ≡ 4)) fillChecks
+            (inr (inl refl), (inr (inr (inl refl)), (inr (inr (inr refl)), inl refl)));
+      }
+
+  -- a refusal carries its number, and leaves the list as it was
+  pub fill-refused : ¬ (fillNumber n a ≡ 0) → fillOutcome n a ≡ filled (fillNumber n a) a
+  unfolding fillOutcome
+  fill-refused h = rw (ne-eqb (fillNumber n a) 0 h, fillOutcome)
+
+  -- without a refusal the list is the identity
+  pub fill-accepted : fillNumber n a ≡ 0 → fillOutcome n a ≡ filled 0 (identity n)
+  unfolding fillOutcome
+  fill-accepted e = rw (eq-eqb (fillNumber n a) 0 e, fillOutcome)
+
+  -- the number that a fill answers is the refusal's, always
+  pub fill-number : fillOutcome n a .number ≡ fillNumber n a
+  fill-number = go (eqb (fillNumber n a) 0) refl
+    where
+      go : (b : Bool) → eqb (fillNumber n a) 0 ≡ b → fillOutcome n a .number ≡ fillNumber n a
+      go true t = let e = eqb-true (fillNumber n a) 0 t in rw (fill-accepted e) (sym e)
+      go false t = rw (fill-refused (eqb-false (fillNumber n a) 0 t))
