@@ -1,14 +1,15 @@
 -- When each call answers each number: 01's table as theorems, the place that 8 carries, what a refusal leaves, and what an acceptance tells; then the same for
 -- the identity fill and the row view. Assumes nothing.
 use mathlib.Core.Path.{_≡_, refl, sym, ap, _∙_}
-use mathlib.Core.Logic.{_↔_, _⊎_, inl, inr, ⊎-elim, Iff·rfl}
+use mathlib.Core.Logic.{_↔_, _⊎_, inl, inr, ⊎-elim, Iff·rfl, Iff·trans}
 use mathlib.Core.Bool.{Bool, true, false, not, _&&_, _||_, true≢false, false≢true}
 use mathlib.Core.List.{List, [], _∷_}
 use Prim.Native.Nat.{ℕ, zero, suc, _+_, _-_, _*_, _≤_, _<_}
 use native.Mathlib.Nat.{le-of-suc-le-suc, not-suc-le-zero}
 use native.Mathlib.Omega.{arith}
 use lib.Dec.{leb, ltb, eqb, lit≤}
-use lib.ListN.{length, take, drop, getD}
+use lib.ListN.{length, take, drop, getD, length-drop}
+use lib.Seq.{length-take-le}
 use lib.Ieee.{Float, nan, lt, Format}
 use lib.Ieee.Scale.{finite}
 use borrow.Author.Tests.{ltb-true, ltb-false, lt-ltb, leb-true, le-leb, eqb-true, eqb-false, eq-eqb, ne-eqb}
@@ -448,14 +449,14 @@ pub record FillFit (n : ℕ) (a : List Float) : Type 0 where
   pub whole : length a ≡ n * n
 
 -- the fill's three conditions: n is 0, n is above 48, the length is not n x n
-abbrev pub fillConditions : ℕ → List Float → List (Type 0)
+abbrev fillConditions : ℕ → List Float → List (Type 0)
 fillConditions n a = (n ≡ 0) ∷ (48 < n) ∷ (¬ (length a ≡ n * n)) ∷ []
 
--- 1, 2 and 4 are given each exactly when its condition holds and none of the earlier ones does, 0 exactly when size and length are fit, and no other number is
+-- 1 is given exactly when n is 0, 2 when n is above 48, 4 when n is neither and the length is not n x n, 0 when size and length are fit, and no other number is
 pub record FillNumbers (n : ℕ) (a : List Float) : Type 0 where
   pub one : (fillNumber n a ≡ 1) ↔ (n ≡ 0)
   pub two : (fillNumber n a ≡ 2) ↔ (48 < n)
-  pub four : (fillNumber n a ≡ 4) ↔ ((¬ (length a ≡ n * n)) × None (take 2 (fillConditions n a)))
+  pub four : (fillNumber n a ≡ 4) ↔ ((1 ≤ n) × (n ≤ 48) × (¬ (length a ≡ n * n)))
   pub accepted : (fillNumber n a ≡ 0) ↔ FillFit n a
   pub only : (fillNumber n a ≡ 0) ⊎ (fillNumber n a ≡ 1) ⊎ (fillNumber n a ≡ 2) ⊎ (fillNumber n a ≡ 4)
 
@@ -472,7 +473,10 @@ module _ (n : ℕ) (a : List Float) where
       record {
         one = (λ e. fill-answers 0 .0 e .0, λ x. fill-answers 0 .1 (x, tt));
         two = (λ e. fill-answers 1 .0 e .0, λ x. fill-answers 1 .1 (x, (λ z. omega arith, tt)));
-        four = fill-answers 2;
+        four = (
+          λ e. let p = fill-answers 2 .0 e in (some n (p .1 .0), few 48 n (p .1 .1 .0), p .0),
+          λ x. fill-answers 2 .1 (x .2, (λ z. omega (arith, x .0), (λ l. omega (arith, x .1), tt))),
+        );
         accepted = (
           λ e. let p = fill-answers 3 .0 e .1 in record { some = some n (p .0); few = few 48 n (p .1 .0); whole = equal (length a) (n * n) (p .1 .1 .0) },
           λ x. fill-answers 3 .1 (tt, (λ z. omega (arith, x .some), (λ l. omega (arith, x .few), (λ f. f (x .whole), tt)))),
@@ -499,3 +503,67 @@ module _ (n : ℕ) (a : List Float) where
       go : (b : Bool) → eqb (fillNumber n a) 0 ≡ b → fillOutcome n a .number ≡ fillNumber n a
       go true t = let e = eqb-true (fillNumber n a) 0 t in rw (fill-accepted e) (sym e)
       go false t = rw (fill-refused (eqb-false (fillNumber n a) 0 t))
+
+-- ---- the row view
+
+-- sizes from 1 to 48, both lengths right, the side 0 or 1, and the row below the side's size
+pub record ViewFit (rows cols : ℕ) (u v : List Float) (side k : ℕ) : Type 0 where
+  pub rows-some : 1 ≤ rows
+  pub cols-some : 1 ≤ cols
+  pub rows-few : rows ≤ 48
+  pub cols-few : cols ≤ 48
+  pub u-length : length u ≡ rows * rows
+  pub v-length : length v ≡ cols * cols
+  pub side-known : side ≤ 1
+  pub row-below-size : k < pick (eqb side 0) rows cols
+
+-- a row of a square table has as many entries as the table has rows
+row-length : (n k : ℕ) (a : List Float) → k < n → length a ≡ n * n → length (rowOf n k a) ≡ n
+row-length n k a h e = length-take-le n (drop (k * n) a) (rw length-drop (omega (arith, row-below n h)))
+
+module _ (rows cols : ℕ) (u v : List Float) (side k : ℕ) where
+  -- the view's test is true exactly when all of these hold
+  pub view-fit : (viewFit rows cols u v side k ≡ true) ↔ ViewFit rows cols u v side k
+  view-fit =
+      Iff·trans
+      (both (both (both (both (both (both (both (nor (same rows 0)) (nor (same cols 0))) (most rows 48)) (most cols 48)) (same (length u) (rows * rows)))
+      (same (length v) (cols * cols))) (most side 1)) (less k (pick (eqb side 0) rows cols))) (
+        λ p.
+            record {
+              rows-some = some rows (p .0 .0 .0 .0 .0 .0 .0);
+              cols-some = some cols (p .0 .0 .0 .0 .0 .0 .1);
+              rows-few = p .0 .0 .0 .0 .0 .1;
+              cols-few = p .0 .0 .0 .0 .1;
+              u-length = p .0 .0 .0 .1;
+              v-length = p .0 .0 .1;
+              side-known = p .0 .1;
+              row-below-size = p .1;
+            },
+        λ x. (((((((λ z. omega (arith, x .rows-some), λ z. omega (arith, x .cols-some)), x .rows-few), x .cols-few), x .u-length), x .v-length), x .side-known), x .row-below-size),
+      )
+
+  -- where they hold, the view is row k of U for side 0, and of V for side 1
+  pub row-viewed : ViewFit rows cols u v side k → rowViewed rows cols u v side k ≡ pick (eqb side 0) (rowOf rows k u) (rowOf cols k v)
+  unfolding rowViewed
+  row-viewed x = rw (view-fit .1 x, rowViewed)
+
+  -- where one does not hold, it is nothing
+  pub row-refused : ¬ ViewFit rows cols u v side k → rowViewed rows cols u v side k ≡ []
+  unfolding rowViewed
+  row-refused h = go (viewFit rows cols u v side k) refl
+    where
+      go : (b : Bool) → viewFit rows cols u v side k ≡ b → rowViewed rows cols u v side k ≡ []
+      go true t = absurd (h (view-fit .0 t))
+      go false t = rw (t, rowViewed)
+
+  -- a view is as long as the side's size, which is 1 or more
+  pub row-viewed-length : ViewFit rows cols u v side k → length (rowViewed rows cols u v side k) ≡ pick (eqb side 0) rows cols
+  row-viewed-length x = rw (row-viewed x) (go (eqb side 0) (x .row-below-size))
+    where
+      go : (b : Bool) → k < pick b rows cols → length (pick b (rowOf rows k u) (rowOf cols k v)) ≡ pick b rows cols
+      go true h = row-length rows k u h (x .u-length)
+      go false h = row-length cols k v h (x .v-length)
+
+  -- so the view is empty exactly when one of them does not hold
+  pub row-empty : (rowViewed rows cols u v side k ≡ []) ↔ (¬ ViewFit rows cols u v side k)
+  row-empty = (λ e x. omega (arith, x .row-below-size, sym (row-viewed-length x) ∙ ap length e), row-refused)
