@@ -4,7 +4,7 @@ use mathlib.Core.Path.{_≡_, refl, sym, ap, _∙_}
 use mathlib.Core.Logic.{_↔_, _⊎_, inl, inr, ⊎-elim, Iff·rfl, Iff·trans}
 use mathlib.Core.Bool.{Bool, true, false, not, _&&_, _||_, true≢false, false≢true}
 use mathlib.Core.List.{List, [], _∷_}
-use Prim.Native.Nat.{ℕ, zero, suc, _+_, _-_, _*_, _≤_, _<_}
+use Prim.Native.Nat.{ℕ, zero, suc, _*_, _≤_, _<_}
 use native.Mathlib.Nat.{le-of-suc-le-suc, not-suc-le-zero}
 use native.Mathlib.Omega.{arith}
 use lib.Dec.{leb, ltb, eqb, lit≤}
@@ -15,7 +15,7 @@ use lib.Ieee.Scale.{finite}
 use borrow.Author.Tests.{ltb-true, ltb-false, lt-ltb, leb-true, le-leb, eqb-true, eqb-false, eq-eqb, ne-eqb}
 use Rattle.method.specs.Floats.{plusZero, pick}
 use Rattle.method.specs.Work.{Work}
-use Rattle.method.specs.Outcome.{Settings, Outcome, outcomeOf, Check, check, Refusal, refusal, firstOf, firstBad, boundFit, floorFit, checks, refused, accepted, refusalOf, outcome, identity, filled, fillNumber, fillOutcome, rowOf, viewFit, rowViewed}
+use Rattle.method.specs.Outcome.{Settings, outcomeOf, Check, check, Refusal, refusal, firstOf, firstBad, boundFit, floorFit, checks, refused, accepted, refusalOf, outcome, identity, filled, fillNumber, fillOutcome, rowOf, viewFit, rowViewed}
 use Rattle.method.specs.Index.{row-below}
 
 -- ---- a test and what it says
@@ -28,34 +28,43 @@ Says b A = (b ≡ true) ↔ A
 denies : {b : Bool} {A : Type 0} → Says b A → b ≡ false → ¬ A
 denies s e a = true≢false (sym (s .1 a) ∙ e)
 
+-- `ltb` says below
 less : (m n : ℕ) → Says (ltb m n) (m < n)
 less m n = (ltb-true m n, lt-ltb m n)
 
+-- `leb` says at most
 most : (m n : ℕ) → Says (leb m n) (m ≤ n)
 most m n = (leb-true m n, le-leb m n)
 
+-- `eqb` says equal
 same : (m n : ℕ) → Says (eqb m n) (m ≡ n)
 same m n = (eqb-true m n, eq-eqb m n)
 
+-- a test says that it is true
 holds : (b : Bool) → Says b (b ≡ true)
 holds b = Iff·rfl
 
+-- a negated test says that the test is false
 lacks : (b : Bool) → Says (not b) (b ≡ false)
 lacks true = (sym, sym)
 lacks false = (λ e. refl, λ e. refl)
 
+-- a negated test denies what the test says
 nor : {b : Bool} {A : Type 0} → Says b A → Says (not b) (¬ A)
 nor {b = true} s = (λ e a. false≢true e, λ f. absurd (f (s .0 refl)))
 nor {b = false} s = (λ e. denies s refl, λ f. refl)
 
+-- one test or another says one of the two
 either : {a b : Bool} {A B : Type 0} → Says a A → Says b B → Says (a || b) (A ⊎ B)
 either {a = true} s t = (λ e. inl (s .0 refl), λ x. refl)
 either {a = false} s t = (λ e. inr (t .0 e), ⊎-elim (λ x. absurd (denies s refl x)) (t .1))
 
+-- one test and another says both of the two
 both : {a b : Bool} {A B : Type 0} → Says a A → Says b B → Says (a && b) (A × B)
 both {a = true} s t = (λ e. (s .0 refl, t .0 e), λ x. t .1 (x .1))
 both {a = false} s t = (λ e. absurd (false≢true e), λ x. absurd (denies s refl (x .0)))
 
+-- three tests not all true say that one is false
 notAll : (a b c : Bool) → Says (not (a && b && c)) ((a ≡ false) ⊎ (b ≡ false) ⊎ (c ≡ false))
 notAll true true c = (λ e. inr (inr (lacks c .0 e)), ⊎-elim (λ x. absurd (true≢false x)) (⊎-elim (λ x. absurd (true≢false x)) (lacks c .1)))
 notAll true false c = (λ e. inr (inl refl), λ x. refl)
@@ -63,10 +72,12 @@ notAll false b c = (λ e. inl refl, λ x. refl)
 
 -- ---- the first of a list of checks
 
+-- where the first check fails, it is the refusal
 first-hit : (c : Check) (cs : List Check) → c .fails ≡ true → firstOf (c ∷ cs) ≡ refusal (c .number) (c .place)
 unfolding firstOf
 first-hit c cs e = rw (e, firstOf)
 
+-- where the first check passes, the refusal is that of the rest
 first-miss : (c : Check) (cs : List Check) → c .fails ≡ false → firstOf (c ∷ cs) ≡ firstOf cs
 unfolding firstOf
 first-miss c cs e = rw (e, firstOf)
@@ -94,6 +105,7 @@ abbrev rising : ℕ → List Check → Bool
 rising m [] = true
 rising m (c ∷ cs) = ltb m (c .number) && rising (c .number) cs
 
+-- what that tells of the first check and of the rest
 rises : (m : ℕ) (c : Check) (cs : List Check) → rising m (c ∷ cs) ≡ true → (m < c .number) × (rising (c .number) cs ≡ true)
 rises m c cs = both (less m (c .number)) (holds (rising (c .number) cs)) .0
 
@@ -259,6 +271,7 @@ pub record BadReading (xs : List Float) : Type 0 where
   pub inside : at < length xs
   pub bad : finite (getD xs at nan) ≡ false
 
+-- the test for 8 says that there is a bad reading
 bad-reading : (xs : List Float) → Says (ltb (firstBad xs) (length xs)) (BadReading xs)
 bad-reading xs = (
   λ e. let i = ltb-true (firstBad xs) (length xs) e in record { at = firstBad xs; inside = i; bad = firstBad-searched xs .bad i },
@@ -326,12 +339,14 @@ module _ (kept : Bool) (rows cols : ℕ) (s : Settings) (w : Work) where
     ),
   )
 
+  -- the general law on the eight checks: i counts from 0
   answers :
       (i : ℕ) →
       (refusalOf kept rows cols s w .number ≡ numberAt (checks kept rows cols s w) i) ↔
       (getD (conditions kept rows cols s w) i (Unit {0}) × Past i kept rows cols s w)
   answers i = first-is i 0 (checks kept rows cols s w) (conditions kept rows cols s w) tests refl
 
+  -- the table holds of every call
   pub numbers : Numbers kept rows cols s w
   numbers =
       record {
@@ -411,13 +426,15 @@ pub record Fit (kept : Bool) (rows cols : ℕ) (s : Settings) (w : Work) : Type 
   pub limit-low : s .limit ≤ 100000
   pub credit-low : s .credit ≤ 1000
 
--- what is left where a condition on two numbers does not hold
+-- what is not 0 is 1 or more
 some : (n : ℕ) → ¬ (n ≡ 0) → 1 ≤ n
 some n h = omega arith
 
+-- what is not above m is at most m
 few : (m n : ℕ) → ¬ (m < n) → n ≤ m
 few m n h = omega arith
 
+-- numbers that are not unequal are equal
 equal : (m n : ℕ) → ¬ (¬ (m ≡ n)) → m ≡ n
 equal m n h = go (eqb m n) refl
   where
@@ -425,6 +442,7 @@ equal m n h = go (eqb m n) refl
     go true t = eqb-true m n t
     go false t = absurd (h (eqb-false m n t))
 
+-- a call that is not refused is fit
 pub fit : (kept : Bool) (rows cols : ℕ) (s : Settings) (w : Work) → refusalOf kept rows cols s w .number ≡ 0 → Fit kept rows cols s w
 fit kept rows cols s w e =
     let p : Past 8 kept rows cols s w = numbers kept rows cols s w .accepted .0 e in
@@ -465,9 +483,11 @@ module _ (n : ℕ) (a : List Float) where
   abbrev fillChecks : List Check
   fillChecks = check 1 (eqb n 0) 0 ∷ check 2 (ltb 48 n) 0 ∷ check 4 (not (eqb (length a) (n * n))) 0 ∷ []
 
+  -- the general law on the fill's three checks: i counts from 0
   fill-answers : (i : ℕ) → (fillNumber n a ≡ numberAt fillChecks i) ↔ (getD (fillConditions n a) i (Unit {0}) × None (take i (fillConditions n a)))
   fill-answers i = first-is i 0 fillChecks (fillConditions n a) (same n 0, (less 48 n, (nor (same (length a) (n * n)), tt))) refl
 
+  -- that holds of every fill
   pub fill-numbers : FillNumbers n a
   fill-numbers =
       record {
