@@ -21,7 +21,7 @@ use Rattle.method.specs.Index.{row-below}
 -- ---- a test and what it says
 
 -- the test is true exactly when A holds
-abbrev pub Says : Bool → Type 0 → Type 0
+abbrev Says : Bool → Type 0 → Type 0
 Says b A = (b ≡ true) ↔ A
 
 -- a test that is false denies what it says
@@ -83,11 +83,10 @@ unfolding firstOf
 first-miss c cs e = rw (e, firstOf)
 
 -- each check's test says the condition that stands at the same place
-abbrev pub Means : List Check → List (Type 0) → Type 0
-Means [] [] = Unit {0}
-Means [] (A ∷ As) = ⊥
-Means (c ∷ cs) [] = ⊥
-Means (c ∷ cs) (A ∷ As) = Says (c .fails) A × Means cs As
+infixr 3 _⨾_
+data Means : List Check → List (Type 0) → Type 1 where
+  done : Means [] []
+  _⨾_ : {c : Check} {cs : List Check} {A : Type 0} {As : List (Type 0)} → Says (c .fails) A → Means cs As → Means (c ∷ cs) (A ∷ As)
 
 -- none of the conditions holds
 abbrev pub None : List (Type 0) → Type 0
@@ -109,13 +108,14 @@ rising m (c ∷ cs) = ltb m (c .number) && rising (c .number) cs
 rises : (m : ℕ) (c : Check) (cs : List Check) → rising m (c ∷ cs) ≡ true → (m < c .number) × (rising (c .number) cs ≡ true)
 rises m c cs = both (less m (c .number)) (holds (rising (c .number) cs)) .0
 
--- numbers that rise from above m do not come down to k
 module _ (k : ℕ) (some : 0 < k) where
+  -- numbers that rise from above m are never a k from 1 to m
   at-above : (i m : ℕ) (cs : List Check) → k ≤ m → rising m cs ≡ true → numberAt cs i ≡ k → ⊥
   at-above i m [] h r e = omega arith
   at-above zero m (c ∷ cs) h r e = omega (arith, rises m c cs r .0)
   at-above (suc i) m (c ∷ cs) h r e = at-above i (c .number) cs (omega (arith, rises m c cs r .0)) (rises m c cs r .1) e
 
+  -- nor is the number of the first refusal
   first-above : (m : ℕ) (cs : List Check) → k ≤ m → rising m cs ≡ true → firstOf cs .number ≡ k → ⊥
   unfolding firstOf
   first-above m [] h r e = omega arith
@@ -126,42 +126,39 @@ module _ (k : ℕ) (some : 0 < k) where
       go false t ih = ih (rw (first-miss c cs t) at e)
 
 -- the number is that of check i exactly when its condition holds and none of the earlier ones does; past the last check: when none of all holds
-first-is :
-    (i m : ℕ) (cs : List Check) (As : List (Type 0)) → Means cs As → rising m cs ≡ true →
-    (firstOf cs .number ≡ numberAt cs i) ↔ (getD As i (Unit {0}) × None (take i As))
+first-is : {cs : List Check} {As : List (Type 0)} (i m : ℕ) → Means cs As → rising m cs ≡ true → (firstOf cs .number ≡ numberAt cs i) ↔ (getD As i (Unit {0}) × None (take i As))
 unfolding firstOf
-first-is zero m [] [] s r = (λ e. (tt, tt), λ x. refl)
-first-is (suc i) m [] [] s r = (λ e. (tt, tt), λ x. refl)
-first-is i m [] (A ∷ As) s r = absurd s
-first-is i m (c ∷ cs) [] s r = absurd s
-first-is zero m (c ∷ cs) (A ∷ As) s r = go (c .fails) refl
+first-is zero m done r = (λ e. (tt, tt), λ x. refl)
+first-is (suc i) m done r = (λ e. (tt, tt), λ x. refl)
+first-is zero m (_⨾_ {c} {cs} {A} s ss) r = go (c .fails) refl
   where
     go : (b : Bool) → c .fails ≡ b → (firstOf (c ∷ cs) .number ≡ c .number) ↔ (A × Unit {0})
-    go true t = (λ e. (s .0 .0 t, tt), λ x. rw (first-hit c cs t))
+    go true t = (λ e. (s .0 t, tt), λ x. rw (first-hit c cs t))
     go false t = (
       λ e. absurd (first-above (c .number) (omega (arith, rises m c cs r .0)) (c .number) cs (omega arith) (rises m c cs r .1) (rw (first-miss c cs t) at e)),
-      λ x. absurd (denies (s .0) t (x .0)),
+      λ x. absurd (denies s t (x .0)),
     )
-first-is (suc i) m (c ∷ cs) (A ∷ As) s r = go (c .fails) refl (first-is i (c .number) cs As (s .1) (rises m c cs r .1))
+first-is (suc i) m (_⨾_ {c} {cs} {A} {As} s ss) r = go (c .fails) refl (first-is i (c .number) ss (rises m c cs r .1))
   where
     go :
         (b : Bool) → c .fails ≡ b → (firstOf cs .number ≡ numberAt cs i) ↔ (getD As i (Unit {0}) × None (take i As)) →
         (firstOf (c ∷ cs) .number ≡ numberAt cs i) ↔ (getD As i (Unit {0}) × ((¬ A) × None (take i As)))
     go true t ih = (
       λ e. absurd (at-above (c .number) (omega (arith, rises m c cs r .0)) i (c .number) cs (omega arith) (rises m c cs r .1) (sym (rw (first-hit c cs t) at e))),
-      λ x. absurd (x .1 .0 (s .0 .0 t)),
+      λ x. absurd (x .1 .0 (s .0 t)),
     )
     go false t ih = (
-      λ e. let y = ih .0 (rw (first-miss c cs t) at e) in (y .0, (denies (s .0) t, y .1)),
+      λ e. let y = ih .0 (rw (first-miss c cs t) at e) in (y .0, (denies s t, y .1)),
       λ x. rw (first-miss c cs t) (ih .1 (x .0, x .1 .1)),
     )
 
--- what holds of no refusal and of each check's refusal holds of the first
 module _ (P : Refusal → Type 0) where
+  -- P holds of each check's refusal, and of none
   abbrev Every : List Check → Type 0
   Every [] = P (refusal 0 0)
   Every (c ∷ cs) = P (refusal (c .number) (c .place)) × Every cs
 
+  -- what holds of each check's refusal, and of none, holds of the first
   first-keeps : (cs : List Check) → Every cs → P (firstOf cs)
   unfolding firstOf
   first-keeps [] p = p
@@ -313,38 +310,23 @@ pub record Numbers (kept : Bool) (rows cols : ℕ) (s : Settings) (w : Work) : T
 module _ (kept : Bool) (rows cols : ℕ) (s : Settings) (w : Work) where
   -- each test says its condition
   tests : Means (checks kept rows cols s w) (conditions kept rows cols s w)
-  tests = (
-    either (same rows 0) (same cols 0),
-    (
-      either (less 48 rows) (less 48 cols),
-      (
-        nor (same (length (w .matrix)) (rows * cols)),
-        (
-          both (holds kept) (nor (same (length (w .u)) (rows * rows))),
-          (
-            both (holds kept) (nor (same (length (w .v)) (cols * cols))),
-            (
-              either (less 100000 (s .limit)) (less 1000 (s .credit)),
-              (
-                notAll (boundFit (s .tolerance)) (boundFit (s .absolute)) (floorFit (s .floor)),
-                (
-                  bad-reading (w .matrix),
-                  tt,
-                ),
-              ),
-            ),
-          ),
-        ),
-      ),
-    ),
-  )
+  tests =
+      either (same rows 0) (same cols 0)
+      ⨾ either (less 48 rows) (less 48 cols)
+      ⨾ nor (same (length (w .matrix)) (rows * cols))
+      ⨾ both (holds kept) (nor (same (length (w .u)) (rows * rows)))
+      ⨾ both (holds kept) (nor (same (length (w .v)) (cols * cols)))
+      ⨾ either (less 100000 (s .limit)) (less 1000 (s .credit))
+      ⨾ notAll (boundFit (s .tolerance)) (boundFit (s .absolute)) (floorFit (s .floor))
+      ⨾ bad-reading (w .matrix)
+      ⨾ done
 
   -- the general law on the eight checks: i counts from 0
   answers :
       (i : ℕ) →
       (refusalOf kept rows cols s w .number ≡ numberAt (checks kept rows cols s w) i) ↔
       (getD (conditions kept rows cols s w) i (Unit {0}) × Past i kept rows cols s w)
-  answers i = first-is i 0 (checks kept rows cols s w) (conditions kept rows cols s w) tests refl
+  answers i = first-is i 0 tests refl
 
   -- the table holds of every call
   pub numbers : Numbers kept rows cols s w
@@ -485,7 +467,10 @@ module _ (n : ℕ) (a : List Float) where
 
   -- the general law on the fill's three checks: i counts from 0
   fill-answers : (i : ℕ) → (fillNumber n a ≡ numberAt fillChecks i) ↔ (getD (fillConditions n a) i (Unit {0}) × None (take i (fillConditions n a)))
-  fill-answers i = first-is i 0 fillChecks (fillConditions n a) (same n 0, (less 48 n, (nor (same (length a) (n * n)), tt))) refl
+  fill-answers i = first-is i 0 fill-tests refl
+    where
+      fill-tests : Means fillChecks (fillConditions n a)
+      fill-tests = same n 0 ⨾ less 48 n ⨾ nor (same (length a) (n * n)) ⨾ done
 
   -- that holds of every fill
   pub fill-numbers : FillNumbers n a
