@@ -1,6 +1,7 @@
 -- The whole outcome of each public call, for every input (document 003, and 01's table of numbers): the first refusal that applies, with all lists as they
 -- were, or the accepted run's report and lists. Definitions only.
 pub mod Reports
+pub mod Refusals
 use mathlib.Core.Bool.{Bool, true, false, not, _&&_, _||_}
 use mathlib.Core.List.{List, [], _∷_}
 use Prim.Native.Nat.{ℕ, suc, _+_, _-_, _*_}
