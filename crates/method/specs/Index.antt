@@ -2,7 +2,7 @@
 -- Assumes nothing.
 use mathlib.Core.Path.{_≡_, refl, ap, _∙_}
 use Prim.Native.Nat.{ℕ, zero, suc, _+_, _*_, _<_, _≤_}
-use native.Mathlib.Nat.{suc-mul, mul-le-mul-right, le-trans, add-mul}
+use native.Mathlib.Nat.{suc-mul, mul-le-mul-right}
 use native.Mathlib.Numerals.{add-one, add-one-le}
 use native.Mathlib.Omega.{arith}
 
@@ -13,6 +13,10 @@ row-next k s = rw (add-one, suc-mul)
 -- row k ends where row n starts, or before
 pub row-below : {k n : ℕ} (s : ℕ) → k < n → k * s + s ≤ n * s
 row-below {k} {n} s h = rw (← suc-mul) (mul-le-mul-right s h)
+
+-- the same from row i on
+pub row-fits : (i s : ℕ) {k n : ℕ} → k < n → (i + k) * s + s ≤ (i + n) * s
+row-fits i s {k} {n} h = row-below s (let l : i + k < i + n = omega arith in l)
 
 -- an entry of the first n rows stands below n * s, so inside a list of that length
 pub inside : {i n j : ℕ} (s len : ℕ) → i < n → j < s → n * s ≤ len → i * s + j < len

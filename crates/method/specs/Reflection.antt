@@ -14,6 +14,9 @@ use Rattle.method.specs.Turns.{turns, turns-keep}
 abbrev pub blank : List Float
 blank = replicate 48 plusZero
 
+pub blank-length : (w : List Float) → w ≡ blank → length w ≡ 48
+blank-length w e = ap length e
+
 -- ---- the reflection of n entries
 
 -- the larger of m and |x|: a NaN is passed over
@@ -76,10 +79,13 @@ reflectionOf f floor at n v =
 unfoldable pub rowTimes : Format → List Float → ℕ → ℕ → List Float → Float
 rowTimes f p off n a = turns 1 n (λ k sum. add f sum (mul f (getD a (off + k) nan) (getD p k nan))) (getD a off nan)
 
+-- entries 1 to n - 1 of the row at `off`, less x times p
+unfoldable pub tailLess : Format → List Float → Float → ℕ → ℕ → List Float → List Float
+tailLess f p x off n a = turns 1 n (λ k a. set a (off + k) (sub f (getD a (off + k) nan) (mul f x (getD p k nan)))) a
+
 -- the row of n entries from `off` on, less x times p, whose head counts as 1
 unfoldable pub rowLess : Format → List Float → Float → ℕ → ℕ → List Float → List Float
-rowLess f p x off n a =
-    turns 1 n (λ k a. set a (off + k) (sub f (getD a (off + k) nan) (mul f x (getD p k nan)))) (set a off (sub f (getD a off nan) x))
+rowLess f p x off n a = tailLess f p x off n (set a off (sub f (getD a off nan) x))
 
 -- a row with its product with p, times tau, taken off along p
 unfoldable pub rowReflected : Format → List Float → Float → ℕ → ℕ → List Float → List Float
@@ -99,9 +105,13 @@ rowCopied off n a = turns 0 n (λ l w. set w l (getD a (off + l) nan)) blank
 unfoldable pub rowAdded : Format → List Float → Float → ℕ → ℕ → List Float → List Float
 rowAdded f a x off n w = turns 0 n (λ l w. set w l (add f (getD w l nan) (mul f x (getD a (off + l) nan)))) w
 
--- row i plus p[1] times row i + 1 plus .. plus p[rows - 1] times row i + rows - 1, in the `cols` columns from j on
+-- w plus p[k] times row i + k, for k from 1 to rows - 1, in the `cols` columns from j on
+unfoldable pub rowsAdded : Format → List Float → List Float → ℕ → ℕ → ℕ → ℕ → ℕ → List Float → List Float
+rowsAdded f a p stride i j rows cols w = turns 1 rows (λ k. rowAdded f a (getD p k nan) ((i + k) * stride + j) cols) w
+
+-- row i plus p[1] times row i + 1 plus .. plus p[rows - 1] times row i + rows - 1
 unfoldable pub columnSums : Format → List Float → ℕ → ℕ → ℕ → ℕ → ℕ → List Float → List Float
-columnSums f p stride i j rows cols a = turns 1 rows (λ k. rowAdded f a (getD p k nan) ((i + k) * stride + j) cols) (rowCopied (i * stride + j) cols a)
+columnSums f p stride i j rows cols a = rowsAdded f a p stride i j rows cols (rowCopied (i * stride + j) cols a)
 
 -- the first n entries, each times x
 unfoldable pub allTimes : Format → Float → ℕ → List Float → List Float
@@ -115,9 +125,13 @@ rowLessAll f w off n a = turns 0 n (λ l a. set a (off + l) (sub f (getD a (off 
 unfoldable pub rowLessTimes : Format → List Float → Float → ℕ → ℕ → List Float → List Float
 rowLessTimes f w x off n a = turns 0 n (λ l a. set a (off + l) (sub f (getD a (off + l) nan) (mul f x (getD w l nan)))) a
 
--- row i less w, and row i + k less p[k] times w
+-- row i + k less p[k] times w, for k from 1 to rows - 1
+unfoldable pub lowerLess : Format → List Float → List Float → ℕ → ℕ → ℕ → ℕ → ℕ → List Float → List Float
+lowerLess f p w stride i j rows cols a = turns 1 rows (λ k. rowLessTimes f w (getD p k nan) ((i + k) * stride + j) cols) a
+
+-- row i less w, and the rows below it less their shares
 unfoldable pub rowsLess : Format → List Float → List Float → ℕ → ℕ → ℕ → ℕ → ℕ → List Float → List Float
-rowsLess f p w stride i j rows cols a = turns 1 rows (λ k. rowLessTimes f w (getD p k nan) ((i + k) * stride + j) cols) (rowLessAll f w (i * stride + j) cols a)
+rowsLess f p w stride i j rows cols a = lowerLess f p w stride i j rows cols (rowLessAll f w (i * stride + j) cols a)
 
 -- the reflection of the `rows` rows from i on, in the `cols` columns from j on
 unfoldable pub reflectedLeft : Format → List Float → Float → ℕ → ℕ → ℕ → ℕ → ℕ → List Float → List Float
@@ -191,8 +205,16 @@ module _ (f : Format) where
       go true e = rw (← reflection-small f floor at n v e) refl
       go false e = rw (← reflection-large f floor at n v _ _ _ _ _ _ _ refl e refl refl refl refl refl refl) (simp (length-set, tailTimes-length, scaled-length))
 
+  pub rowAdded-length : (a : List Float) (x : Float) (off n : ℕ) (w : List Float) → length (rowAdded f a x off n w) ≡ length w
+  unfolding rowAdded
+  rowAdded-length a x off n w = stored 0 (λ l. l) (λ l w. add f (getD w l nan) (mul f x (getD a (off + l) nan))) n w
+
+  pub allTimes-length : (x : Float) (n : ℕ) (w : List Float) → length (allTimes f x n w) ≡ length w
+  unfolding allTimes
+  allTimes-length x n w = stored 0 (λ l. l) (λ l w. mul f (getD w l nan) x) n w
+
   pub rowLess-length : (p : List Float) (x : Float) (off n : ℕ) (a : List Float) → length (rowLess f p x off n a) ≡ length a
-  unfolding rowLess
+  unfolding rowLess tailLess
   rowLess-length p x off n a = stored 1 (λ k. off + k) (λ k a. sub f (getD a (off + k) nan) (mul f x (getD p k nan))) n _ ∙ simp length-set
 
   pub rowReflected-length : (p : List Float) (tau : Float) (off n : ℕ) (a : List Float) → length (rowReflected f p tau off n a) ≡ length a
@@ -212,7 +234,7 @@ module _ (f : Format) where
   rowLessTimes-length w x off n a = stored 0 (λ l. off + l) (λ l a. sub f (getD a (off + l) nan) (mul f x (getD w l nan))) n a
 
   pub reflectedLeft-length : (p : List Float) (tau : Float) (stride i j rows cols : ℕ) (a : List Float) → length (reflectedLeft f p tau stride i j rows cols a) ≡ length a
-  unfolding reflectedLeft rowsLess
+  unfolding reflectedLeft rowsLess lowerLess
   reflectedLeft-length p tau stride i j rows cols a =
       turns-keep 1 _ (λ (l : List Float). length l ≡ length a)
       (λ k l e. rowLessTimes-length _ (getD p k nan) ((i + k) * stride + j) cols l ∙ e)

@@ -1,0 +1,52 @@
+-- After k turns a is `columnsTurned` in k rows. Assumes nothing.
+use borrow.Author.Needs.{needs}
+use Prim.Native.Nat.{_+_, _-_, _*_, _<_, _≤_, zero-le}
+use mathlib.Core.Path.{_≡_, refl, ap, _∙_}
+use native.Mathlib.Omega.{arith}
+use native.Mathlib.Nat.{le-antisymm}
+use lib.ListN.{length, length-set}
+use lib.Ieee.{binary64}
+use Rattle.method.specs.Index.{row-fits}
+use Rattle.svd.specs.Values.{rotation}
+use Rattle.method.specs.Turns.{turns-none, turns-next}
+use Rattle.method.specs.Rotation.{columnsTurned}
+use Rattle.svd.proofs.givens.apply_gt_right.Statement.{statement}
+use Rattle.svd.proofs.givens.apply_gt_right.Tie as tie
+
+abbrev Inv-loop : tie.InvT-loop
+Inv-loop a₀ g stride i j range k₀ a k = (k ≤ range) × (length a ≡ length a₀) × (a ≡ columnsTurned binary64 (rotation g) stride i j k a₀)
+
+abbrev μ-loop : tie.MeasureT-loop
+μ-loop a₀ g stride i j range k₀ a k = range - k
+
+loop-holds : tie.Need-loop-holds Inv-loop μ-loop
+unfolding columnsTurned
+loop-holds c = (omega arith, refl, turns-none 0 _ _)
+
+add-row : tie.Need-add-row Inv-loop μ-loop
+add-row c = omega (arith, row-fits (c .before .before .before .args .j) (c .before .before .before .args .stride) (c .loop-test .taken))
+
+mul-row : tie.Need-mul-row Inv-loop μ-loop
+mul-row c = record { fits = omega (arith, row-fits (c .before .before .before .args .j) (c .before .before .before .args .stride) (c .loop-test .taken)) }
+
+add-turn-pair : tie.Need-add-turn-pair Inv-loop μ-loop
+add-turn-pair c = omega (arith, row-fits (c .before .before .before .before .args .j) (c .before .before .before .before .args .stride) (c .before .loop-test .taken))
+
+add-turn-pair-2 : tie.Need-add-turn-pair-2 Inv-loop μ-loop
+add-turn-pair-2 c = omega (arith, row-fits (c .before .before .before .before .args .j) (c .before .before .before .before .args .stride) (c .before .loop-test .taken))
+
+add-turn-pair-3 : tie.Need-add-turn-pair-3 Inv-loop μ-loop
+add-turn-pair-3 c = omega (arith, row-fits (c .before .before .before .before .args .j) (c .before .before .before .before .args .stride) (c .before .loop-test .taken))
+
+turn-pair-requires : tie.Need-turn-pair-requires Inv-loop μ-loop
+turn-pair-requires c κs = (omega (arith, row-fits (c .before .before .before .before .args .j) (c .before .before .before .before .args .stride) (c .before .loop-test .taken)), omega (arith, row-fits (c .before .before .before .before .args .j) (c .before .before .before .before .args .stride) (c .before .loop-test .taken)))
+
+loop-again : tie.Need-loop-again Inv-loop μ-loop
+unfolding columnsTurned
+loop-again c = (omega arith, omega arith, rw turns-next (cc))
+
+returns : tie.Need-returns Inv-loop μ-loop
+returns c = cc (le-antisymm (c .before .loop .inv .0) (c .loop-test .left))
+
+pub apply-gt-right-spec : {M : Type 1} → statement M
+apply-gt-right-spec = tie.close (tie.spec Inv-loop μ-loop loop-holds add-row mul-row add-turn-pair add-turn-pair-2 add-turn-pair-3 turn-pair-requires (λ c. search needs) (λ c. search needs) loop-again (λ c. search needs) returns)

@@ -1,0 +1,16 @@
+-- The three steps of `reflectedLeft`, over a blank vector. Assumes nothing.
+use borrow.Author.Needs.{needs}
+use Rattle.method.specs.Reflection.{reflectedLeft}
+use Rattle.method.specs.Floats.{plusZero-64}
+use Rattle.svd.proofs.householder.lapply_householder.Statement.{statement}
+use Rattle.svd.proofs.householder.lapply_householder.Tie as tie
+
+sum-columns-requires : tie.Need-sum-columns-requires
+sum-columns-requires c κs = rw plusZero-64 (search needs)
+
+returns : tie.Need-returns
+unfolding reflectedLeft
+returns c = rw (c .before .before .rows-less .ensures, c .before .before .before .before .before .before .scale-all .ensures, c .before .before .before .before .before .before .before .before .before .sum-columns .ensures)
+
+pub lapply-householder-spec : {M : Type 1} → statement M
+lapply-householder-spec = tie.close (tie.spec (λ c. search needs) sum-columns-requires (λ c. search needs) (λ c κs. search needs) (λ c. search needs) (λ c κs. search needs) (λ c. search needs) returns)

@@ -1,0 +1,36 @@
+-- By the two cases of `reflectionOf`: below the floor, and not. Assumes nothing.
+use borrow.Author.Needs.{needs}
+use mathlib.Core.Path.{_≡_, refl, ap, _∙_}
+use native.Mathlib.Omega.{arith}
+use lib.ListN.{length, length-set}
+use Rattle.method.specs.Reflection.{reflectionOf, blank-length, reflection-small, reflection-large}
+use Rattle.method.specs.Floats.{plusZero-64, one-64}
+use Rattle.svd.proofs.householder.params.Statement.{statement}
+use Rattle.svd.proofs.householder.params.Tie as tie
+
+slice-write-p : tie.Need-slice-write-p
+slice-write-p c = omega (arith, blank-length _ (c .before .before .before .before .before .pre .3))
+
+returns : tie.Need-returns
+returns c = rw (plusZero-64, one-64, c .before .before .before .before .before .pre .3) (reflection-small _ _ _ _ _ (rw (c .before .largest .ensures) at (c .if1 .taken)))
+
+squares-requires : tie.Need-squares-requires
+squares-requires c κs = omega (arith, blank-length _ (c .before .before .before .before .before .before .before .before .before .before .before .before .before .before .before .pre .3))
+
+slice-read-head : tie.Need-slice-read-head
+slice-read-head c = omega (arith, blank-length _ (c .before .before .before .before .before .before .before .before .before .before .before .before .before .before .before .before .before .pre .3))
+
+scale-tail-requires : tie.Need-scale-tail-requires
+scale-tail-requires c κs = (omega arith, omega (arith, blank-length _ (c .before .before .before .before .before .before .before .before .before .before .before .before .before .before .before .before .before .before .before .before .pre .3)))
+
+slice-write-p-2 : tie.Need-slice-write-p-2
+slice-write-p-2 c = omega (arith, blank-length _ (c .before .before .before .before .before .before .before .before .before .before .before .before .before .before .before .before .before .before .before .before .before .before .before .pre .3))
+
+same-length-4 : tie.Need-same-length-4
+same-length-4 c = simp length-set (omega arith)
+
+returns-2 : tie.Need-returns-2
+returns-2 c = rw one-64 (reflection-large _ _ _ _ _ _ _ _ _ _ _ _ (c .before .before .before .before .before .before .before .before .before .before .before .before .before .before .before .before .before .before .before .largest .ensures) (c .before .before .before .before .before .before .before .before .before .before .before .before .before .before .before .before .before .before .if1 .left) (rw one-64 at (c .before .before .before .before .before .before .before .before .before .before .before .before .before .before .before .scale-into .ensures)) (c .before .before .before .before .before .before .before .before .before .before .before .clear .ensures) (c .before .before .before .before .before .before .before .squares .ensures) (c .before .before .before .before .before .sign .ensures) (c .before .before .before .before .square-root .ensures) (rw one-64 at (c .before .before .scale-tail .ensures)))
+
+pub params-spec : {M : Type 1} → statement M
+params-spec = tie.close (tie.spec (λ c κs. search needs) slice-write-p (λ c. search needs) (λ c. search needs) returns (λ c κs. search needs) (λ c κs. search needs) squares-requires slice-read-head (λ c κs. search needs) (λ c κs. search needs) scale-tail-requires (λ c. search needs) (λ c. search needs) slice-write-p-2 (λ c. search needs) same-length-4 returns-2)

@@ -1,0 +1,45 @@
+-- After k turns a is `reflectedRight` of k rows. Assumes nothing.
+use borrow.Author.Needs.{needs}
+use Prim.Native.Nat.{_+_, _-_, _*_, _<_, _≤_, zero-le}
+use mathlib.Core.Path.{_≡_, refl, ap, _∙_}
+use native.Mathlib.Omega.{arith}
+use native.Mathlib.Nat.{le-antisymm}
+use lib.ListN.{length, length-set}
+use lib.Ieee.{binary64}
+use Rattle.method.specs.Index.{row-fits}
+use Rattle.method.specs.Turns.{turns-none, turns-next}
+use Rattle.method.specs.Reflection.{reflectedRight}
+use Rattle.svd.proofs.householder.rapply_householder.Statement.{statement}
+use Rattle.svd.proofs.householder.rapply_householder.Tie as tie
+
+abbrev Inv-loop : tie.InvT-loop
+Inv-loop a₀ p tau stride i j rows cols k₀ a k = (k ≤ rows) × (length a ≡ length a₀) × (a ≡ reflectedRight binary64 p tau stride i j k cols a₀)
+
+abbrev μ-loop : tie.MeasureT-loop
+μ-loop a₀ p tau stride i j rows cols k₀ a k = rows - k
+
+loop-holds : tie.Need-loop-holds Inv-loop μ-loop
+unfolding reflectedRight
+loop-holds c = (omega arith, refl, turns-none 0 _ _)
+
+add-off : tie.Need-add-off Inv-loop μ-loop
+add-off c = omega (arith, row-fits (c .before .before .before .before .args .i) (c .before .before .before .before .args .stride) (c .loop-test .taken))
+
+mul-off : tie.Need-mul-off Inv-loop μ-loop
+mul-off c = record { fits = omega (arith, row-fits (c .before .before .before .before .args .i) (c .before .before .before .before .args .stride) (c .loop-test .taken)) }
+
+add-off-2 : tie.Need-add-off-2 Inv-loop μ-loop
+add-off-2 c = omega (arith, row-fits (c .before .before .before .before .args .i) (c .before .before .before .before .args .stride) (c .loop-test .taken))
+
+reflect-row-requires : tie.Need-reflect-row-requires Inv-loop μ-loop
+reflect-row-requires c κs = (omega arith, omega arith, omega (arith, row-fits (c .before .before .before .before .before .args .i) (c .before .before .before .before .before .args .stride) (c .before .loop-test .taken)))
+
+loop-again : tie.Need-loop-again Inv-loop μ-loop
+unfolding reflectedRight
+loop-again c = (omega arith, omega arith, rw turns-next (cc))
+
+returns : tie.Need-returns Inv-loop μ-loop
+returns c = cc (le-antisymm (c .before .loop .inv .0) (c .loop-test .left))
+
+pub rapply-householder-spec : {M : Type 1} → statement M
+rapply-householder-spec = tie.close (tie.spec Inv-loop μ-loop loop-holds add-off mul-off add-off-2 reflect-row-requires (λ c. search needs) (λ c. search needs) loop-again (λ c. search needs) returns)

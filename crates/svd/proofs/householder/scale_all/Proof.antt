@@ -1,0 +1,32 @@
+-- After l turns w is `allTimes` of l entries. Assumes nothing.
+use borrow.Author.Needs.{needs}
+use Prim.Native.Nat.{_+_, _-_, _*_, _<_, _≤_, zero-le}
+use mathlib.Core.Path.{_≡_, refl, ap, _∙_}
+use native.Mathlib.Omega.{arith}
+use native.Mathlib.Nat.{le-antisymm}
+use lib.ListN.{length, length-set}
+use lib.Ieee.{binary64}
+use Rattle.method.specs.Turns.{turns-none, turns-next}
+use Rattle.method.specs.Reflection.{allTimes}
+use Rattle.svd.proofs.householder.scale_all.Statement.{statement}
+use Rattle.svd.proofs.householder.scale_all.Tie as tie
+
+abbrev Inv-loop : tie.InvT-loop
+Inv-loop w₀ n x l₀ w l = (l ≤ n) × (length w ≡ length w₀) × (w ≡ allTimes binary64 x l w₀)
+
+abbrev μ-loop : tie.MeasureT-loop
+μ-loop w₀ n x l₀ w l = n - l
+
+loop-holds : tie.Need-loop-holds Inv-loop μ-loop
+unfolding allTimes
+loop-holds c = (omega arith, refl, turns-none 0 _ _)
+
+loop-again : tie.Need-loop-again Inv-loop μ-loop
+unfolding allTimes
+loop-again c = (omega arith, simp length-set (omega arith), rw turns-next (cc))
+
+returns : tie.Need-returns Inv-loop μ-loop
+returns c = cc (le-antisymm (c .before .loop .inv .0) (c .loop-test .left))
+
+pub scale-all-spec : {M : Type 1} → statement M
+scale-all-spec = tie.close (tie.spec Inv-loop μ-loop loop-holds (λ c. search needs) (λ c. search needs) (λ c. search needs) (λ c. search needs) (λ c. search needs) loop-again (λ c. search needs) returns)

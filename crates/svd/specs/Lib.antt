@@ -1,0 +1,2 @@
+-- The code's values as the method's.
+pub mod Values

@@ -1,0 +1,263 @@
+// Reflections (francis/primitives.rs): how one is made of a run of entries, and what it does to a
+// row-major table from the left and from the right, sums in the Rust's order.
+ghost use mathlib.Core.Path.{_≡_};
+ghost use Prim.Native.Nat.{_+_, _*_, _≤_, _<_};
+ghost use lib.ListN.{length};
+ghost use lib.Ieee.{binary64};
+ghost use Rattle.method.specs.Reflection.{blank, largestOf, scaled, cleared, squaresOf, tailTimes, reflectionOf, rowTimes, rowLess, rowReflected, reflectedRight, rowCopied, rowAdded, columnSums, allTimes, rowLessAll, rowLessTimes, rowsLess, reflectedLeft};
+ghost use Rattle.svd.specs.Values.{reflection};
+
+// The largest magnitude among the n entries from `at` on.
+fn largest(v: &[f64], at: usize, n: usize) -> f64
+    requires { ⌜ at + n ≤ length (now v) ⌝ }
+    ensures { λ r. ⌜ r ≡ largestOf (now (v .entry)) at n ⌝ }
+{
+    let mut max = 0.0;
+    for k in 0..n {
+        let i = at + k;
+        let x = float::magnitude(v[i]);
+        if x > max {
+            max = x;
+        }
+    }
+    max
+}
+
+// The n entries from `at` on, times x, into a blank vector.
+fn scale_into(v: &[f64], w: &mut [f64], at: usize, n: usize, x: f64)
+    requires { ⌜ (at + n ≤ length (now v)) × (n ≤ 48) × (now w ≡ blank) ⌝ }
+    ensures { λ _. ⌜ now (w .exit) ≡ scaled binary64 (now (v .entry)) at x n ⌝ }
+{
+    for k in 0..n {
+        let i = at + k;
+        w[k] = v[i] * x;
+    }
+}
+
+// The n entries from `at` on, set to 0.
+fn clear(v: &mut [f64], at: usize, n: usize)
+    requires { ⌜ at + n ≤ length (now v) ⌝ }
+    ensures { λ _. ⌜ now (v .exit) ≡ cleared at n (now (v .entry)) ⌝ }
+{
+    for k in 0..n {
+        let i = at + k;
+        v[i] = 0.0;
+    }
+}
+
+// The sum of the squares of the first n entries.
+fn squares(w: &[f64], n: usize) -> f64
+    requires { ⌜ n ≤ length (now w) ⌝ }
+    ensures { λ r. ⌜ r ≡ squaresOf binary64 (now (w .entry)) n ⌝ }
+{
+    let mut sum = 0.0;
+    for k in 0..n {
+        sum += w[k] * w[k];
+    }
+    sum
+}
+
+// Entries 1 to n - 1, times x.
+fn scale_tail(w: &mut [f64], n: usize, x: f64)
+    requires { ⌜ (1 ≤ n) × (n ≤ length (now w)) ⌝ }
+    ensures { λ _. ⌜ now (w .exit) ≡ tailTimes binary64 x n (now (w .entry)) ⌝ }
+{
+    for k in 1..n {
+        w[k] *= x;
+    }
+}
+
+// Makes the reflection of the n entries of v from `at` on: what it leaves in v, its vector in p,
+// which comes blank, and its tau.
+pub(crate) fn params(v: &mut [f64], p: &mut [f64], at: usize, n: usize, floor: f64) -> f64
+    requires { ⌜ (1 ≤ n) × (at + n ≤ length (now v)) × (n ≤ 48) × (now p ≡ blank) ⌝ }
+    ensures { λ r. ⌜ reflection (now (v .exit)) (now (p .exit)) r ≡ reflectionOf binary64 floor at n (now (v .entry)) ⌝ }
+{
+    let max = largest(v, at, n);
+    if max < floor {
+        p[0] = 1.0;
+        return 0.0;
+    }
+    let over = 1.0 / max;
+    scale_into(v, p, at, n, over);
+    clear(v, at, n);
+    let sum = squares(p, n);
+    let head = p[0];
+    let g = float::sign(head) * float::square_root(sum);
+    let scale = head + g;
+    let by = 1.0 / scale;
+    scale_tail(p, n, by);
+    v[at] = (-g) * max;
+    p[0] = 1.0;
+    scale / g
+}
+
+// The row at `off` times p, whose head counts as 1.
+fn row_times(a: &[f64], p: &[f64], off: usize, cols: usize) -> f64
+    requires { ⌜ (1 ≤ cols) × (cols ≤ length (now p)) × (off + cols ≤ length (now a)) ⌝ }
+    ensures { λ r. ⌜ r ≡ rowTimes binary64 (now (p .entry)) off cols (now (a .entry)) ⌝ }
+{
+    let mut sum = a[off];
+    for k in 1..cols {
+        let i = off + k;
+        sum += a[i] * p[k];
+    }
+    sum
+}
+
+// The row at `off`, less x times p, whose head counts as 1.
+fn row_less(a: &mut [f64], p: &[f64], x: f64, off: usize, cols: usize)
+    requires { ⌜ (1 ≤ cols) × (cols ≤ length (now p)) × (off + cols ≤ length (now a)) ⌝ }
+    ensures { λ _. ⌜ now (a .exit) ≡ rowLess binary64 (now (p .entry)) x off cols (now (a .entry)) ⌝ }
+{
+    a[off] -= x;
+    for k in 1..cols {
+        let i = off + k;
+        a[i] -= x * p[k];
+    }
+}
+
+// The row at `off`, reflected.
+fn reflect_row(a: &mut [f64], p: &[f64], tau: f64, off: usize, cols: usize)
+    requires { ⌜ (1 ≤ cols) × (cols ≤ length (now p)) × (off + cols ≤ length (now a)) ⌝ }
+    ensures { λ _. ⌜ now (a .exit) ≡ rowReflected binary64 (now (p .entry)) tau off cols (now (a .entry)) ⌝ }
+{
+    let x = row_times(a, p, off, cols) * tau;
+    row_less(a, p, x, off, cols);
+}
+
+// From the right: each of the `rows` rows from i on, in the `cols` columns from j on.
+pub(crate) fn rapply_householder(
+    a: &mut [f64],
+    p: &[f64],
+    tau: f64,
+    stride: usize,
+    i: usize,
+    j: usize,
+    rows: usize,
+    cols: usize,
+)
+    requires { ⌜ (1 ≤ cols) × (cols ≤ length (now p)) × (j + cols ≤ stride) × (i + rows ≤ 48) × ((i + rows) * stride ≤ length (now a)) ⌝ }
+    ensures { λ _. ⌜ now (a .exit) ≡ reflectedRight binary64 (now (p .entry)) tau stride i j rows cols (now (a .entry)) ⌝ }
+{
+    for k in 0..rows {
+        let off = (i + k) * stride + j;
+        reflect_row(a, p, tau, off, cols);
+    }
+}
+
+// The n entries from `off` on, into a blank vector.
+fn copy_row(a: &[f64], w: &mut [f64], off: usize, n: usize)
+    requires { ⌜ (off + n ≤ length (now a)) × (n ≤ 48) × (now w ≡ blank) ⌝ }
+    ensures { λ _. ⌜ now (w .exit) ≡ rowCopied off n (now (a .entry)) ⌝ }
+{
+    for l in 0..n {
+        let i = off + l;
+        w[l] = a[i];
+    }
+}
+
+// w plus x times the row at `off`.
+fn add_row(a: &[f64], w: &mut [f64], x: f64, off: usize, n: usize)
+    requires { ⌜ (off + n ≤ length (now a)) × (n ≤ length (now w)) ⌝ }
+    ensures { λ _. ⌜ now (w .exit) ≡ rowAdded binary64 (now (a .entry)) x off n (now (w .entry)) ⌝ }
+{
+    for l in 0..n {
+        let i = off + l;
+        w[l] += x * a[i];
+    }
+}
+
+// Row i plus p[k] times row i + k, for each k from 1 on, into a blank vector.
+fn sum_columns(
+    a: &[f64],
+    p: &[f64],
+    w: &mut [f64],
+    stride: usize,
+    i: usize,
+    j: usize,
+    rows: usize,
+    cols: usize,
+)
+    requires { ⌜ (1 ≤ rows) × (rows ≤ length (now p)) × (cols ≤ 48) × (j + cols ≤ stride) × (i + rows ≤ 48) × ((i + rows) * stride ≤ length (now a)) × (now w ≡ blank) ⌝ }
+    ensures { λ _. ⌜ now (w .exit) ≡ columnSums binary64 (now (p .entry)) stride i j rows cols (now (a .entry)) ⌝ }
+{
+    copy_row(a, w, i * stride + j, cols);
+    for k in 1..rows {
+        let off = (i + k) * stride + j;
+        add_row(a, w, p[k], off, cols);
+    }
+}
+
+// The first n entries, times x.
+fn scale_all(w: &mut [f64], n: usize, x: f64)
+    requires { ⌜ n ≤ length (now w) ⌝ }
+    ensures { λ _. ⌜ now (w .exit) ≡ allTimes binary64 x n (now (w .entry)) ⌝ }
+{
+    for l in 0..n {
+        w[l] *= x;
+    }
+}
+
+// The row at `off`, less w.
+fn row_less_all(a: &mut [f64], w: &[f64], off: usize, n: usize)
+    requires { ⌜ (off + n ≤ length (now a)) × (n ≤ length (now w)) ⌝ }
+    ensures { λ _. ⌜ now (a .exit) ≡ rowLessAll binary64 (now (w .entry)) off n (now (a .entry)) ⌝ }
+{
+    for l in 0..n {
+        let i = off + l;
+        a[i] -= w[l];
+    }
+}
+
+// The row at `off`, less x times w.
+fn row_less_times(a: &mut [f64], w: &[f64], x: f64, off: usize, n: usize)
+    requires { ⌜ (off + n ≤ length (now a)) × (n ≤ length (now w)) ⌝ }
+    ensures { λ _. ⌜ now (a .exit) ≡ rowLessTimes binary64 (now (w .entry)) x off n (now (a .entry)) ⌝ }
+{
+    for l in 0..n {
+        let i = off + l;
+        a[i] -= x * w[l];
+    }
+}
+
+// Row i less w, and row i + k less p[k] times w.
+fn rows_less(
+    a: &mut [f64],
+    p: &[f64],
+    w: &[f64],
+    stride: usize,
+    i: usize,
+    j: usize,
+    rows: usize,
+    cols: usize,
+)
+    requires { ⌜ (1 ≤ rows) × (rows ≤ length (now p)) × (cols ≤ length (now w)) × (j + cols ≤ stride) × (i + rows ≤ 48) × ((i + rows) * stride ≤ length (now a)) ⌝ }
+    ensures { λ _. ⌜ now (a .exit) ≡ rowsLess binary64 (now (p .entry)) (now (w .entry)) stride i j rows cols (now (a .entry)) ⌝ }
+{
+    row_less_all(a, w, i * stride + j, cols);
+    for k in 1..rows {
+        let off = (i + k) * stride + j;
+        row_less_times(a, w, p[k], off, cols);
+    }
+}
+
+// From the left: the `rows` rows from i on, in the `cols` columns from j on.
+pub(crate) fn lapply_householder(
+    a: &mut [f64],
+    p: &[f64],
+    tau: f64,
+    stride: usize,
+    i: usize,
+    j: usize,
+    rows: usize,
+    cols: usize,
+)
+    requires { ⌜ (1 ≤ rows) × (rows ≤ length (now p)) × (cols ≤ 48) × (j + cols ≤ stride) × (i + rows ≤ 48) × ((i + rows) * stride ≤ length (now a)) ⌝ }
+    ensures { λ _. ⌜ now (a .exit) ≡ reflectedLeft binary64 (now (p .entry)) tau stride i j rows cols (now (a .entry)) ⌝ }
+{
+    let mut w = [0.0f64; 48];
+    sum_columns(a, p, &mut w, stride, i, j, rows, cols);
+    scale_all(&mut w, cols, tau);
+    rows_less(a, p, &w, stride, i, j, rows, cols);
+}

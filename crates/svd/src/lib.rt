@@ -1,0 +1,2 @@
+mod givens;
+mod householder;
