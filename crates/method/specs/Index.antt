@@ -2,7 +2,7 @@
 -- Assumes nothing.
 use mathlib.Core.Path.{_≡_, refl, ap, _∙_}
 use Prim.Native.Nat.{ℕ, zero, suc, _+_, _*_, _<_, _≤_}
-use native.Mathlib.Nat.{suc-mul, mul-le-mul-right}
+use native.Mathlib.Nat.{suc-mul, mul-le-mul, mul-le-mul-right}
 use native.Mathlib.Numerals.{add-one, add-one-le}
 use native.Mathlib.Omega.{arith}
 
@@ -17,6 +17,10 @@ row-below {k} {n} s h = rw (← suc-mul) (mul-le-mul-right s h)
 -- the same from row i on
 pub row-fits : (i s : ℕ) {k n : ℕ} → k < n → (i + k) * s + s ≤ (i + n) * s
 row-fits i s {k} {n} h = row-below s (let l : i + k < i + n = omega arith in l)
+
+-- 48 rows of 64 entries are 3,072
+pub few : (i s : ℕ) → i ≤ 48 → s ≤ 64 → i * s ≤ 3072
+few i s h g = mul-le-mul {n₁ = i} {m₁ = s} {n₂ = 48} {m₂ = 64} h g
 
 -- an entry of the first n rows stands below n * s, so inside a list of that length
 pub inside : {i n j : ℕ} (s len : ℕ) → i < n → j < s → n * s ≤ len → i * s + j < len

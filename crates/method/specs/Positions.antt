@@ -53,6 +53,18 @@ cornerStart upper stride c =
       counter = 0;
     }
 
+-- every pass begins by raising the counter by 1
+abbrev pub counted : Corner → Corner
+counted w =
+    record {
+      range = w .range;
+      inter = w .inter;
+      coupling = w .coupling;
+      topLeft = w .topLeft;
+      bottomLeft = w .bottomLeft;
+      counter = w .counter + 1;
+    }
+
 -- a drop: the range and inter less 1, the three positions less stride + 1, the counter less the credit, each stopping at 0
 unfoldable pub cornerDropped : ℕ → ℕ → Corner → Corner
 cornerDropped stride credit w =
@@ -108,7 +120,16 @@ begun-start false stride c h packed =
 pub begun-placed : (upper : Bool) (stride c : ℕ) → 2 ≤ c → (upper ≡ true → stride ≡ c) → Placed upper stride (cornerBegun upper stride c)
 begun-placed upper stride c h packed = rw (begun-start upper stride c h packed) (beginPlaced upper stride c)
 
--- ---- a drop
+-- ---- a pass
+
+-- raising the counter moves nothing
+pub counted-placed : (upper : Bool) (stride : ℕ) (w : Corner) → Placed upper stride w → Placed upper stride (counted w)
+counted-placed upper stride w p =
+    record {
+      placed = λ h.
+          let s = p .placed h in
+          record { inter = s .inter; coupling = s .coupling; topLeft = s .topLeft; bottomLeft = s .bottomLeft };
+    }
 
 -- a drop moves the positions up the diagonal by one entry
 drop-stands : (upper : Bool) (stride credit k : ℕ) (w : Corner) → StandsAt upper stride (k + 1) w → StandsAt upper stride k (cornerDropped stride credit w)

@@ -3,7 +3,12 @@ use mathlib.Core.List.{List}
 use lib.Ieee.{Float}
 use Rattle.method.specs.Rotation.{Rotation as Turn}
 use Rattle.method.specs.Reflection.{Reflection}
+use Rattle.method.specs.Work.{Shape as Sizes}
+use Rattle.method.specs.Walk.{Walk as Counts}
+use Rattle.method.specs.Positions.{Corner}
 use Rattle.svd.specs.declared.givens.Rotation.{Rotation}
+use Rattle.svd.specs.declared.shape.Shape.{Shape}
+use Rattle.svd.specs.declared.primitives.Walk.{Walk}
 
 -- a rotation
 abbrev pub rotation : Rotation → Turn
@@ -12,3 +17,15 @@ rotation g = record { radius = g .radius; cosine = g .cosine; sine = g .sine }
 -- what `params` leaves in the entries and in the vector, and its tau
 abbrev pub reflection : List Float → List Float → Float → Reflection
 reflection entries vector tau = record { entries = entries; vector = vector; tau = tau }
+
+-- a shape
+abbrev pub sizes : Shape → Sizes
+sizes z = record { rows = z .rows; cols = z .cols; stride = z .stride; urows = z .urows; vrows = z .vrows }
+
+-- the five counts of a walk's record
+abbrev pub counts : Walk → Counts
+counts w = record { range = w .range; counter = w .counter; passes = w .passes; sweeps = w .sweeps; drops = w .drops }
+
+-- the six counters that the drop helper of document 004 keeps
+abbrev pub corner : Walk → Corner
+corner w = record { range = w .range; inter = w .inter; coupling = w .e1; topLeft = w .tl; bottomLeft = w .bl; counter = w .counter }

@@ -1,2 +1,4 @@
 mod givens;
 mod householder;
+mod primitives;
+mod shape;

@@ -1,0 +1,111 @@
+// The shift of a sweep and the walk's record (svd/primitives.rs). The Rust's six lent counters are
+// one record here: a drop consumes it and hands back the next, and so does a sweep.
+ghost use mathlib.Core.Path.{_≡_};
+ghost use Prim.Native.Nat.{_+_, _-_, _*_, _≤_, _<_};
+ghost use lib.Ieee.{binary64};
+ghost use Rattle.method.specs.Chase.{singular};
+ghost use Rattle.method.specs.Walk.{begun, afterDrop, afterSweep};
+ghost use Rattle.method.specs.Walk.Loop.{Room};
+ghost use Rattle.method.specs.Positions.{cornerStart, cornerDropped, counted};
+ghost use Rattle.svd.specs.Values.{counts, corner};
+
+// The eigenvalue of M'M nearest to its last entry, for M of rows (m00, m01) and (m10, m11).
+pub(crate) fn singular(m00: f64, m01: f64, m10: f64, m11: f64) -> f64
+    ensures { λ r. ⌜ r ≡ singular binary64 m00 m01 m10 m11 ⌝ }
+{
+    let off_diag = m00 * m01 + m10 * m11;
+    let first = m00 * m00 + m10 * m10;
+    let last = m01 * m01 + m11 * m11;
+    let d = (first - last) / 2.0;
+    let discriminate = d * d + off_diag * off_diag;
+    last + d - float::sign(d) * float::square_root(float::larger(discriminate, 0.0))
+}
+
+// The difference, stopping at 0.
+fn saturating_sub(a: usize, b: usize) -> usize
+    ensures { λ r. ⌜ r ≡ a - b ⌝ }
+{
+    if b < a { a - b } else { 0 }
+}
+
+// Where the walk stands: the live corner's range, its interior, the places of the coupling and of
+// the last 2 x 2's left entries, the counter that the limit bounds; and the passes made so far,
+// each a sweep or a drop.
+pub struct Walk {
+    pub range: usize,
+    pub inter: usize,
+    pub e1: usize,
+    pub tl: usize,
+    pub bl: usize,
+    pub counter: usize,
+    pub passes: usize,
+    pub sweeps: usize,
+    pub drops: usize,
+}
+
+impl Walk {
+    // The record at the start, over a diagonal of `card` entries.
+    pub(crate) fn new(upper: bool, card: usize, stride: usize) -> Walk
+        requires { ⌜ (card ≤ 48) × (stride ≤ 64) ⌝ }
+        ensures { λ r. ⌜ (counts r ≡ begun card) × (corner r ≡ cornerStart upper stride card) ⌝ }
+    {
+        let k = saturating_sub(card, 2);
+        let tl = k * stride + k;
+        let bl = (k + 1) * stride + k;
+        if upper {
+            return Walk {
+                range: card,
+                inter: k,
+                e1: k * stride + (k + 1),
+                tl: tl,
+                bl: bl,
+                counter: 0,
+                passes: 0,
+                sweeps: 0,
+                drops: 0,
+            };
+        }
+        Walk {
+            range: card,
+            inter: k,
+            e1: bl,
+            tl: tl,
+            bl: bl,
+            counter: 0,
+            passes: 0,
+            sweeps: 0,
+            drops: 0,
+        }
+    }
+
+    // The record after a pass that drops.
+    pub(crate) fn drop(self, stride: usize, credit: usize) -> Walk
+        requires { ⌜ (1 < self .range) × (stride ≤ 64) × Room 1 (counts self) ⌝ }
+        ensures { λ r. ⌜ (counts r ≡ afterDrop credit (counts self)) × (corner r ≡ cornerDropped stride credit (counted (corner self))) ⌝ }
+    {
+        let shift = stride + 1;
+        Walk {
+            range: self.range - 1,
+            inter: saturating_sub(self.inter, 1),
+            e1: saturating_sub(self.e1, shift),
+            tl: saturating_sub(self.tl, shift),
+            bl: saturating_sub(self.bl, shift),
+            counter: saturating_sub(self.counter + 1, credit),
+            passes: self.passes + 1,
+            sweeps: self.sweeps,
+            drops: self.drops + 1,
+        }
+    }
+
+    // The record after a pass that sweeps.
+    pub(crate) fn sweep(self) -> Walk
+        requires { ⌜ Room 1 (counts self) ⌝ }
+        ensures { λ r. ⌜ (counts r ≡ afterSweep (counts self)) × (corner r ≡ counted (corner self)) ⌝ }
+    {
+        let mut next = self;
+        next.counter = self.counter + 1;
+        next.passes = self.passes + 1;
+        next.sweeps = self.sweeps + 1;
+        next
+    }
+}
