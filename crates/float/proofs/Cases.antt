@@ -55,15 +55,6 @@ at-positive x F s h =
     go : (b : ℕ) → 0 < b → 0 < b / 2 ^ 52 * 2 ^ 52 + b % 2 ^ 52
     go b h = omega arith
 
-pub finite-no-nan : (r : ℕ) → r < 2047 * 2 ^ 52 → T (not (nanBits binary64 r))
-finite-no-nan r h = subst (λ (t : Bool). T (not t)) (sym (nanBits-above binary64 r)) (go r h)
-  where
-    le-no : (a b : ℕ) → b ≤ a → T (not (ltb a b))
-    le-no a b k = lib.Arith.le→nltb a b k
-
-    go : (r : ℕ) → r < 2047 * 2 ^ 52 → T (not (ltb (2047 * 2 ^ 52) (r % 2 ^ 63)))
-    go r k = le-no (2047 * 2 ^ 52) (r % 2 ^ 63) (omega arith)
-
 -- ---- negative
 -- a pattern past the infinity's with a clear sign is a NaN's
 above-is-nan : (b : ℕ) → 2047 * 2 ^ 52 < b → b < 2 ^ 63 → T (not (isNan (ofBits binary64 b))) → ⊥

@@ -12,18 +12,6 @@ use lib.Ieee.Bits.{ofBits-toBits, is-true, is-false, nanBits-is}
 use lib.Ieee.Compare.{differs-from-itself, nan-differs}
 use Rattle.method.specs.Floats.{magnitude, signOf, pick}
 
--- ---- the test x != x
-
--- where it passes, x is the NaN
-pub at-nan : (P : Float → Type 0) (x : Float) → ne x x ≡ true → P nan → P x
-at-nan P x h p = subst P (sym (differs-from-itself x (subst T (sym h) tt))) p
-
-pub no-nan : (x : Float) → ne x x ≡ false → T (not (isNan x))
-unfolding isNan
-no-nan nan h = absurd (true≢false (sym nan-differs ∙ h))
-no-nan (inf s) h = tt
-no-nan (fin s m e) h = tt
-
 -- ---- the two answers of `smaller` and `larger`
 pub second : (x y : Float) (n t : Bool) → t ≡ true → y ≡ pick n y (pick t y x)
 second x y true t h = refl

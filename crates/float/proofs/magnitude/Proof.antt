@@ -4,7 +4,8 @@ use native.Mathlib.Omega.{arith}
 use lib.Dec.{T}
 use lib.Ieee.{binary64, fits}
 use Rattle.method.specs.Floats.{magnitude}
-use Rattle.float.proofs.Signs.{at-nan, no-nan, cleared, cleared-no-nan}
+use Rattle.method.specs.Nans.{at-nan, no-nan}
+use Rattle.float.proofs.Signs.{cleared, cleared-no-nan}
 use Rattle.float.proofs.magnitude.Statement.{statement}
 use Rattle.float.proofs.magnitude.Tie as tie
 use Rattle.float.proofs.magnitude.Reads as reads

@@ -4,7 +4,8 @@ use native.Mathlib.Omega.{arith}
 use lib.Dec.{T}
 use lib.Ieee.{binary64, fits, ofBits, neg}
 use Rattle.method.specs.Floats.{signOf}
-use Rattle.float.proofs.Signs.{at-nan, no-nan, sign-clear, sign-set}
+use Rattle.method.specs.Nans.{at-nan, no-nan}
+use Rattle.float.proofs.Signs.{sign-clear, sign-set}
 use Rattle.float.proofs.sign.Statement.{statement}
 use Rattle.float.proofs.sign.Tie as tie
 use Rattle.float.proofs.sign.Reads as reads

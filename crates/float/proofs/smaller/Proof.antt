@@ -2,7 +2,8 @@
 use mathlib.Core.Path.{_≡_, refl}
 use lib.Ieee.{isNan, lt}
 use Rattle.method.specs.Floats.{smaller}
-use Rattle.float.proofs.Signs.{at-nan, no-nan, first, second}
+use Rattle.method.specs.Nans.{at-nan, no-nan}
+use Rattle.float.proofs.Signs.{first, second}
 use Rattle.float.proofs.smaller.Statement.{statement}
 use Rattle.float.proofs.smaller.Tie as tie
 

@@ -2,13 +2,14 @@
 use Prim.Native.Nat.{ℕ, _+_, _-_, _*_, _/_, _%_, _^_, _≤_, _<_}
 use mathlib.Core.Path.{_≡_, refl, sym, subst, _∙_}
 use native.Mathlib.Nat.{le-antisymm}
+use native.Mathlib.Omega.{arith}
 use lib.Arith.{le-zero}
 use lib.Dec.{T}
 use lib.Ieee.{Float, binary64, fits}
 use borrow.Author.Needs.{needs}
 use Rattle.method.specs.Root.{squareRoot}
-use Rattle.float.proofs.Signs.{at-nan, no-nan}
-use Rattle.float.proofs.Cases.{at-zero, at-minus-zero, at-infinity, at-positive, at-negative, finite-no-nan, zero-by-zero}
+use Rattle.method.specs.Nans.{at-nan, no-nan, bits-no-nan}
+use Rattle.float.proofs.Cases.{at-zero, at-minus-zero, at-infinity, at-positive, at-negative, zero-by-zero}
 use Rattle.float.proofs.square_root.Statement.{statement}
 use Rattle.float.proofs.square_root.Tie as tie
 use Rattle.float.proofs.square_root.Reads as reads
@@ -30,7 +31,7 @@ root-bits-requires : tie.Need-root-bits-requires
 root-bits-requires c κs = search needs
 
 float-from-bits-result : tie.Need-float-from-bits-result
-float-from-bits-result c = finite-no-nan (c .root-bits .result) (c .root-bits .ensures .0)
+float-from-bits-result c = bits-no-nan (c .root-bits .result) (omega (arith, c .root-bits .ensures .0))
 
 returns-2 : tie.Need-returns-2
 returns-2 c =
