@@ -19,21 +19,9 @@ use Rattle.method.specs.Root.Patterns.{fieldCount, bits-count}
 use Rattle.float.proofs.Signs.{signed, bits-signed}
 use Rattle.float.proofs.Joined.{bits-positive}
 
--- ---- the three patterns whose values stay
-stays : (x : Float) (b : ℕ) → T (fits binary64 x) → toBits binary64 x ≡ b → ofBits binary64 b ≡ squareRoot binary64 (ofBits binary64 b) → x ≡ squareRoot binary64 x
-stays x b F e k = subst (λ (y : Float). y ≡ squareRoot binary64 y) (ap (λ (z : ℕ). ofBits binary64 z) (sym e) ∙ ofBits-toBits binary64 x F) k
-
-pub at-zero : (x : Float) → T (fits binary64 x) → toBits binary64 x ≡ 0 → x ≡ squareRoot binary64 x
-unfolding squareRoot ofBits
-at-zero x F e = stays x 0 F e refl
-
-pub at-minus-zero : (x : Float) → T (fits binary64 x) → toBits binary64 x ≡ 2 ^ 63 → x ≡ squareRoot binary64 x
-unfolding squareRoot ofBits
-at-minus-zero x F e = stays x (2 ^ 63) F e refl
-
-pub at-infinity : (x : Float) → T (fits binary64 x) → toBits binary64 x ≡ 2047 * 2 ^ 52 → x ≡ squareRoot binary64 x
-unfolding squareRoot ofBits
-at-infinity x F e = stays x (2047 * 2 ^ 52) F e refl
+-- what holds of the value of a pattern holds of each value with that pattern
+pub at-pattern : (P : Float → Type 0) (x : Float) (b : ℕ) → T (fits binary64 x) → toBits binary64 x ≡ b → P (ofBits binary64 b) → P x
+at-pattern P x b F e p = subst P (ap (λ (z : ℕ). ofBits binary64 z) (sym e) ∙ ofBits-toBits binary64 x F) p
 
 -- ---- positive
 field-some : (x t : ℕ) → 0 < x * 2 ^ 52 + t → 0 < fieldCount binary64 x t
