@@ -1,18 +1,17 @@
 -- `square_root`'s cases by the bit pattern: what the value is, and what its root is. Assumes nothing.
 use mathlib.Core.Path.{_≡_, refl, sym, ap, _∙_, subst}
 use mathlib.Core.Logic.{_⊎_, inl, inr}
-use Prim.Native.Nat.{ℕ, zero, suc, _+_, _-_, _*_, _/_, _%_, _^_, _≤_, _<_}
-use native.Mathlib.Nat.{mod-eq-of-lt, mul-pos, mul-one, one-mul, pow-succ', lt-irrefl}
+use Prim.Native.Nat.{ℕ, zero, suc, _+_, _*_, _/_, _%_, _^_, _≤_, _<_}
+use native.Mathlib.Nat.{mul-pos, mul-one, one-mul, pow-succ'}
 use native.Mathlib.Omega.{arith}
-use mathlib.Core.Bool.{Bool, true, false, not, cond, true≢false}
+use mathlib.Core.Bool.{Bool, true, false, not, true≢false}
 use lib.IntN.{ℤ, pos, negsuc}
-use lib.Dec.{T, leb, ltb, eqb, eqb→eq, lt→ltb, le→leb}
+use lib.Dec.{T, leb, ltb, eqb→eq, lt→ltb, le→leb}
 use lib.Pow.{pow-pos}
-use lib.Ieee.{Float, nan, inf, fin, Format, binary64, prec, low, up, down, odd, fits, isNan, ofFields, ofBits, toBits, nanBits, ne, div}
+use lib.Ieee.{Float, nan, inf, fin, binary64, up, down, fits, isNan, ofBits, toBits, ne, div}
 use lib.Ieee.Bits.{ofBits-toBits, is-true, nanBits-is, nanBits-above}
-use lib.Ieee.Compare.{differs-from-itself, nan-differs}
 use lib.Ieee.Positive.{positive}
-use Rattle.method.specs.Root.{count, square, rooted, squareRoot}
+use Rattle.method.specs.Root.{square, rooted, squareRoot}
 use Rattle.method.specs.Root.Grid.{less-or-not}
 use Rattle.method.specs.Root.Laws.{squareRoot-of}
 use Rattle.method.specs.Root.Patterns.{fieldCount, bits-count}

@@ -1,15 +1,13 @@
 -- The pattern that `root_bits` joins from half of the power and the root's digits is the pattern of `rooted`. Assumes nothing.
-use mathlib.Core.Path.{_≡_, refl, sym, ap, _∙_, subst}
-use mathlib.Core.Logic.{_⊎_, inl, inr}
-use Prim.Native.Nat.{ℕ, zero, suc, _+_, _-_, _*_, _/_, _%_, _^_, _≤_, _<_}
-use native.Mathlib.Nat.{le-trans, le-of-eq, le-antisymm, lt-of-lt-of-le, lt-of-le-of-lt, lt-irrefl, lt-of-not-le, eq-or-lt-of-le, mul-comm, mul-assoc, mul-pos, mul-le-mul-right, mul-lt-mul-of-pos-right, mul-div-cancel, pow-succ', one-mul}
+use mathlib.Core.Path.{_≡_, sym, ap, _∙_, subst}
+use Prim.Native.Nat.{ℕ, suc, _+_, _-_, _*_, _/_, _%_, _^_, _≤_, _<_}
+use native.Mathlib.Nat.{le-trans, le-of-eq, lt-of-lt-of-le, lt-of-le-of-lt, mul-assoc, mul-pos, mul-le-mul-right, mul-div-cancel, pow-succ'}
 use native.Mathlib.Omega.{arith}
-use lib.Dec.{T, lit≤}
-use lib.Pow.{pow-pos, pow-mono, pow-lt, pow-add, shl-lt}
-use lib.Ieee.{Float, Format, binary64, prec, emax, low, hid, size, fits, ofBits, toBits}
-use lib.Ieee.Bits.{ofBits-toBits, ofBits-fits}
-use lib.Ieee.Digits.{size-lt, size-le, size-reaches}
-use lib.Ieee.Fits.{two}
+use lib.Dec.{T}
+use lib.Pow.{pow-pos, pow-mono, pow-add, shl-lt}
+use lib.Ieee.{binary64, size, ofBits}
+use lib.Ieee.Bits.{ofBits-fits}
+use lib.Ieee.Digits.{size-lt, size-le}
 use lib.Ieee.Positive.{positive, first-pos, positive-of-value}
 use Rattle.method.specs.Root.{count, square, wholeRoot, rooted}
 use Rattle.method.specs.Root.Whole.{IsRoot, whole-is, root-unique, four-pow}

@@ -1,15 +1,13 @@
 -- What a test for NaN and the highest bit of the pattern tell of a double. Assumes nothing.
 use mathlib.Core.Path.{_≡_, refl, sym, ap, _∙_, subst}
-use Prim.Native.Nat.{ℕ, zero, suc, _+_, _*_, _/_, _%_, _^_, _≤_, _<_}
-use native.Mathlib.Nat.{mod-lt, mod-eq-of-lt}
+use Prim.Native.Nat.{ℕ, zero, suc, _+_, _/_, _%_, _^_, _≤_, _<_}
 use native.Mathlib.Omega.{arith}
 use mathlib.Core.Bool.{Bool, true, false, not, cond, true≢false}
 use lib.IntN.{pos}
 use lib.Dec.{T, leb, eqb, le→leb}
 use lib.Arith.{lt→nleb}
-use lib.Ieee.{Float, nan, inf, fin, binary64, odd, fits, isNan, ofFields, ofBits, toBits, nanBits, ne}
+use lib.Ieee.{Float, nan, inf, fin, binary64, odd, fits, isNan, ofFields, ofBits, toBits, nanBits}
 use lib.Ieee.Bits.{ofBits-toBits, is-true, is-false, nanBits-is}
-use lib.Ieee.Compare.{differs-from-itself, nan-differs}
 use Rattle.method.specs.Floats.{magnitude, signOf, pick}
 
 -- ---- the two answers of `smaller` and `larger`

@@ -8,10 +8,9 @@ pub mod Patterns
 pub mod Laws
 pub mod Written
 pub mod Neighbours
-use mathlib.Core.Path.{_≡_}
+pub mod Special
 use Prim.Native.Nat.{ℕ, zero, suc, _+_, _-_, _*_, _/_, _^_, _<_}
-use mathlib.Core.Bool.{Bool, true, false, cond}
-use lib.IntN.{ℤ, pos, negsuc}
+use mathlib.Core.Bool.{true, false, cond}
 use lib.Dec.{T, leb}
 use lib.Ieee.{Float, nan, inf, fin, Format, prec, low, up, down, size, odd, fits, ofBits, toBits}
 use lib.Ieee.Scale.{finite}

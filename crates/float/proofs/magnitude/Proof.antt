@@ -8,8 +8,6 @@ use Rattle.method.specs.Nans.{at-nan, no-nan}
 use Rattle.float.proofs.Signs.{cleared, cleared-no-nan}
 use Rattle.float.proofs.magnitude.Statement.{statement}
 use Rattle.float.proofs.magnitude.Tie as tie
-use Rattle.float.proofs.magnitude.Reads as reads
-use Rattle.float.proofs.magnitude.Lts as lts
 
 -- what owning an `f64` tells: the format holds it
 held : (c : tie.Start) → T (fits binary64 (c .args .x))

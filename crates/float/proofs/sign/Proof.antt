@@ -1,6 +1,5 @@
 -- `float::sign` meets its contract.
-use mathlib.Core.Path.{_≡_, refl, sym, subst, _∙_}
-use native.Mathlib.Omega.{arith}
+use mathlib.Core.Path.{_≡_, refl, sym, subst}
 use lib.Dec.{T}
 use lib.Ieee.{binary64, fits, ofBits, neg}
 use Rattle.method.specs.Floats.{signOf}
@@ -8,8 +7,6 @@ use Rattle.method.specs.Nans.{at-nan, no-nan}
 use Rattle.float.proofs.Signs.{sign-clear, sign-set}
 use Rattle.float.proofs.sign.Statement.{statement}
 use Rattle.float.proofs.sign.Tie as tie
-use Rattle.float.proofs.sign.Reads as reads
-use Rattle.float.proofs.sign.Lts as lts
 
 -- what owning an `f64` tells: the format holds it
 held : (c : tie.Start) → T (fits binary64 (c .args .x))

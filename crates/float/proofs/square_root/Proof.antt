@@ -10,8 +10,6 @@ use Rattle.method.specs.Nans.{at-nan, no-nan, bits-no-nan}
 use Rattle.float.proofs.Cases.{at-pattern, at-positive, at-negative, zero-by-zero}
 use Rattle.float.proofs.square_root.Statement.{statement}
 use Rattle.float.proofs.square_root.Tie as tie
-use Rattle.float.proofs.square_root.Reads as reads
-use Rattle.float.proofs.square_root.Lts as lts
 
 -- what owning an `f64` tells: the format holds it
 held : (c : tie.Start) → T (fits binary64 (c .args .x))

@@ -1,11 +1,10 @@
 -- What is proved of `squareRoot`, in either format: it is nearest, nothing else is, and no tie occurs. Assumes nothing.
 use mathlib.Core.Path.{_≡_, refl, sym, ap, _∙_, subst}
 use mathlib.Core.Logic.{_⊎_, inl, inr}
-use Prim.Native.Nat.{ℕ, zero, suc, _+_, _-_, _*_, _/_, _%_, _^_, _≤_, _<_}
-use native.Mathlib.Nat.{le-trans, le-of-eq, le-of-lt, lt-of-lt-of-le, lt-of-le-of-lt, lt-irrefl, lt-trans, le-antisymm, one-mul, mul-assoc, mul-pos, mul-le-mul-right, mul-lt-mul-of-pos-right, eq-or-lt-of-le}
+use Prim.Native.Nat.{ℕ, zero, suc, _+_, _-_, _*_, _/_, _^_, _≤_, _<_}
+use native.Mathlib.Nat.{le-refl, add-le-add, le-trans, le-of-eq, lt-of-lt-of-le, lt-of-le-of-lt, lt-irrefl, lt-trans, one-mul, mul-assoc, mul-pos, mul-le-mul-right, mul-lt-mul-of-pos-right}
 use native.Mathlib.Omega.{arith}
-use mathlib.Core.Bool.{Bool, true, false}
-use lib.IntN.{ℤ}
+use mathlib.Core.Bool.{true, false}
 use lib.Dec.{T, lit≤}
 use lib.Pow.{pow-pos, pow-mono, pow-lt, pow-add}
 use lib.Ieee.{Float, nan, inf, fin, Format, binary32, binary64, prec, emax, low, size, odd, fits}
@@ -16,7 +15,7 @@ use lib.Ieee.Scale.{finite}
 use lib.Ieee.Positive.{positive, positive-finite, positive-of-value}
 use Rattle.method.specs.Root.{count, square, wholeRoot, rooted, squareRoot, Nearest}
 use Rattle.method.specs.Root.Whole.{sq-le}
-use Rattle.method.specs.Root.Grid.{Rounded, rounded-is, near-lower, near-upper, less-or-not}
+use Rattle.method.specs.Root.Grid.{Rounded, rounded-is, near-lower, near-upper, less-or-not, neither}
 use Rattle.method.specs.Root.Counts.{count-is, Shape, shape, count-pos, count-unique}
 
 -- ---- how many digits a root drops, and what is kept of it
@@ -160,12 +159,7 @@ not-below f x r s a b l =
 
 -- nothing else is nearest
 pub nearest-unique : (f : Format) (x r s : Float) → Nearest f x r → Nearest f x s → r ≡ s
-nearest-unique f x r s a b = count-unique f r s (a .held) (b .held) (a .above-zero) (b .above-zero) (same (less-or-not (count f r) (count f s)) (less-or-not (count f s) (count f r)))
-  where
-    same : (count f r < count f s) ⊎ (count f s ≤ count f r) → (count f s < count f r) ⊎ (count f r ≤ count f s) → count f r ≡ count f s
-    same (inl l) d = absurd (not-below f x r s a b l)
-    same (inr g) (inl l) = absurd (not-below f x s r b a l)
-    same (inr g) (inr h) = le-antisymm h g
+nearest-unique f x r s a b = count-unique f r s (a .held) (b .held) (a .above-zero) (b .above-zero) (neither (count f r) (count f s) (not-below f x r s a b) (not-below f x s r b a))
 
 -- no tie: for two values of the format with none between them, the root is not at their midpoint
 pub squareRoot-no-tie : (f : Format) (x y z : Float) → T (fits f x) → T (positive x) → T (fits f y) → T (finite y) → T (fits f z) → T (finite z) → count f y < count f z
@@ -182,13 +176,7 @@ squareRoot-no-tie f x y z h p Fy fy Fz fz l adjacent e = go (adjacent r (a .held
     go : (count f r ≤ count f y) ⊎ (count f z ≤ count f r) → ⊥
     go (inl g) =
         lt-irrefl (4 * square f x)
-        (lt-of-lt-of-le (a .upper z Fz fz (lt-of-le-of-lt g l)) (le-trans (sq-le (count f r + count f z) (count f y + count f z) (add-le-right (count f r) (count f y) (count f z) g)) (le-of-eq e)))
-      where
-        add-le-right : (r y z : ℕ) → r ≤ y → r + z ≤ y + z
-        add-le-right r y z k = omega arith
+        (lt-of-lt-of-le (a .upper z Fz fz (lt-of-le-of-lt g l)) (le-trans (sq-le (count f r + count f z) (count f y + count f z) (add-le-add g (le-refl (count f z)))) (le-of-eq e)))
     go (inr g) =
         lt-irrefl (4 * square f x)
-        (lt-of-le-of-lt (le-trans (le-of-eq (sym e)) (sq-le (count f y + count f z) (count f y + count f r) (add-le-left (count f y) (count f z) (count f r) g))) (a .lower y Fy fy (lt-of-lt-of-le l g)))
-      where
-        add-le-left : (y z r : ℕ) → z ≤ r → y + z ≤ y + r
-        add-le-left y z r k = omega arith
+        (lt-of-le-of-lt (le-trans (le-of-eq (sym e)) (sq-le (count f y + count f z) (count f y + count f r) (add-le-add (le-refl (count f y)) g))) (a .lower y Fy fy (lt-of-lt-of-le l g)))

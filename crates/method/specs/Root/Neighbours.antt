@@ -2,10 +2,10 @@
 use mathlib.Core.Path.{_≡_, refl, sym, ap, _∙_, subst}
 use mathlib.Core.Logic.{_⊎_, inl, inr}
 use Prim.Native.Nat.{ℕ, zero, suc, _+_, _-_, _*_, _/_, _%_, _^_, _≤_, _<_}
-use native.Mathlib.Nat.{le-trans, le-of-eq, lt-of-lt-of-le, lt-of-le-of-lt, eq-or-lt-of-le, mod-lt, div-add-mod', mul-le-mul-right, mul-lt-mul-of-pos-right, mul-one, mul-assoc, mul-comm, pow-succ', mul-pos, le-add-left, le-refl, le-dest, le-antisymm, lt-irrefl, lt-trans, add-zero}
+use native.Mathlib.Nat.{le-trans, le-of-eq, le-of-lt, add-le-add, lt-of-lt-of-le, eq-or-lt-of-le, mod-lt, div-add-mod', mul-le-mul-right, mul-lt-mul-of-pos-right, mul-assoc, pow-succ', le-add-left, le-refl, le-dest, lt-irrefl, lt-trans, add-zero}
 use native.Mathlib.Omega.{arith}
 use mathlib.Core.Bool.{Bool, false}
-use lib.Dec.{T}
+use lib.Dec.{T, lit≤}
 use lib.Arith.{digits-div, digits-mod}
 use lib.Pow.{pow-pos, pow-mono}
 use lib.Ieee.{Float, nan, inf, fin, Format, binary32, binary64, prec, emax, low, hid, ones, size, fits, ofBits, toBits}
@@ -17,11 +17,11 @@ use lib.Ieee.Scale.{finite}
 use lib.Ieee.Positive.{positive, positive-finite}
 use Rattle.method.specs.Root.{count, square, rooted, squareRoot, Nearest, before, after, Enclosed}
 use Rattle.method.specs.Root.Patterns.{fieldCount, bits-val, bits-count}
-use Rattle.method.specs.Root.Laws.{dropped, kept, squareRoot-of, squareRoot-nearest, square-rounding, square-top, square-fits}
-use Rattle.method.specs.Root.Written.{squareRoot-pattern, twice-hid}
+use Rattle.method.specs.Root.Laws.{dropped, kept, squareRoot-of, squareRoot-nearest, nearest-unique, square-rounding, square-top, square-fits}
+use Rattle.method.specs.Root.Written.{squareRoot-pattern}
 use Rattle.method.specs.Root.Whole.{sq-le}
-use Rattle.method.specs.Root.Grid.{less-or-not}
-use Rattle.method.specs.Root.Counts.{Shape, shape, pattern, toBits-count, count-unique}
+use Rattle.method.specs.Root.Grid.{less-or-not, neither, double-hid}
+use Rattle.method.specs.Root.Counts.{shape, toBits-count, count-unique}
 
 -- ---- the next pattern stands for a larger number
 value-finite : (x : Float) (s : Bool) (a c : ℕ) → HasValue x s a c → T (finite x)
@@ -55,12 +55,6 @@ next-field f (suc x) t e = lt-of-lt-of-le (mul-lt-mul-of-pos-right (go t (hid f)
 fields-step : (f : Format) (b : ℕ) → fieldCount f (b / hid f) (b % hid f) < fieldCount f ((b + 1) / hid f) ((b + 1) % hid f)
 fields-step f b = go (eq-or-lt-of-le (mod-lt b (pow-pos (prec f - 1))))
   where
-    x : ℕ
-    x = b / hid f
-
-    t : ℕ
-    t = b % hid f
-
     step : (a b t : ℕ) → a + t ≡ b → b + 1 ≡ a + suc t
     step a b t e = omega arith
 
@@ -91,30 +85,27 @@ count-step f b h =
     less : (b c : ℕ) → b + 1 < c → b < c
     less b c k = omega arith
 
+few : (f : Format) → prec f + emax f ≡ low f + 2
+few binary32 = refl
+few binary64 = refl
+
+some : (f : Format) → 2 ≤ emax f
+some binary32 = lit≤ tt
+some binary64 = lit≤ tt
+
 -- ---- the root's pattern is neither the first nor the last
 module _ (f : Format) (x : Float) (h : T (fits f x)) (p : T (positive x)) where
-  r : Float
-  r = rooted f (square f x)
-
   b-lo : 0 < toBits f (rooted f (square f x))
   b-lo = subst (λ (z : ℕ). 0 < z) (sym (squareRoot-pattern f x h p)) (lt-of-lt-of-le (lt-of-lt-of-le (pow-pos (prec f - 1)) (square-rounding f x h p .least)) (le-add-left (kept f (square f x)) (dropped f (square f x) * hid f)))
-
-  few : (f : Format) → prec f + emax f ≡ low f + 2
-  few binary32 = refl
-  few binary64 = refl
 
   fields-lt : dropped f (square f x) + 3 ≤ ones f
   fields-lt = go (size (square f x)) (prec f) (low f) (emax f) (few f) (size-le (square f x) (low f + low f + suc (emax f)) (square-top f x h p)) (some f)
     where
-      some : (f : Format) → 2 ≤ emax f
-      some binary32 = lib.Dec.lit≤ tt
-      some binary64 = lib.Dec.lit≤ tt
-
       go : (z p l e : ℕ) → p + e ≡ l + 2 → z ≤ l + l + suc e → 2 ≤ e → (z + 1) / 2 - p + 3 ≤ 2 * e + 1
       go z p l e a b s = omega arith
 
   b-hi : toBits f (rooted f (square f x)) + 1 < ones f * hid f
-  b-hi = subst (λ (z : ℕ). z + 1 < ones f * hid f) (sym (squareRoot-pattern f x h p)) (lt-of-lt-of-le (go (dropped f (square f x)) (hid f) (kept f (square f x)) (2 ^ prec f) (twice-hid (prec f) (two f)) (square-rounding f x h p .most) big) (mul-le-mul-right (hid f) fields-lt))
+  b-hi = subst (λ (z : ℕ). z + 1 < ones f * hid f) (sym (squareRoot-pattern f x h p)) (lt-of-lt-of-le (go (dropped f (square f x)) (hid f) (kept f (square f x)) (2 ^ prec f) (double-hid (prec f) (two f)) (square-rounding f x h p .most) big) (mul-le-mul-right (hid f) fields-lt))
     where
       big : 2 ≤ hid f
       big = pow-mono {i = 1} {j = prec f - 1} (one-less (prec f) (two f))
@@ -162,16 +153,13 @@ count-more : (f : Format) (d b : ℕ) → b + d < ones f * hid f → count f (of
 count-more f zero b h = le-of-eq (ap (λ (z : ℕ). count f (ofBits f z)) (sym (add-zero b)))
 count-more f (suc d) b h =
     le-trans (count-more f d b (less b d (ones f * hid f) h))
-    (le-trans (weaken (count f (ofBits f (b + d))) (count f (ofBits f (b + d + 1))) (count-step f (b + d) (subst (λ (z : ℕ). z < ones f * hid f) (sym (one b d)) h))) (le-of-eq (ap (λ (z : ℕ). count f (ofBits f z)) (one b d))))
+    (le-trans (le-of-lt (count-step f (b + d) (subst (λ (z : ℕ). z < ones f * hid f) (sym (one b d)) h))) (le-of-eq (ap (λ (z : ℕ). count f (ofBits f z)) (one b d))))
   where
     less : (b d c : ℕ) → b + suc d < c → b + d < c
     less b d c k = omega arith
 
     one : (b d : ℕ) → b + d + 1 ≡ b + suc d
     one b d = omega arith
-
-    weaken : (a b : ℕ) → a < b → a ≤ b
-    weaken a b k = omega arith
 
 count-mono : (f : Format) (b c : ℕ) → b ≤ c → c < ones f * hid f → count f (ofBits f b) ≤ count f (ofBits f c)
 count-mono f b c h k =
@@ -184,19 +172,11 @@ pattern-lt f v h p =
     let c = count f v in
     let sh = shape f v h (positive-finite v p) in
     subst (λ (z : ℕ). z < ones f * hid f) (sym (toBits-count f v p))
-    (lt-of-lt-of-le (go (size c - prec f) (hid f) (c / 2 ^ (size c - prec f)) (2 ^ prec f) (twice-hid (prec f) (two f)) (kept-lt (prec f) c))
-    (mul-le-mul-right (hid f) (fields (size c) (prec f) (low f) (emax f) (few-of f) (some f) (size-le c (low f + suc (emax f)) (sh .under)))))
+    (lt-of-lt-of-le (go (size c - prec f) (hid f) (c / 2 ^ (size c - prec f)) (2 ^ prec f) (double-hid (prec f) (two f)) (kept-lt (prec f) c))
+    (mul-le-mul-right (hid f) (fields (size c) (prec f) (low f) (emax f) (few f) (some f) (size-le c (low f + suc (emax f)) (sh .under)))))
   where
     go : (k h q c : ℕ) → c ≡ 2 * h → q < c → k * h + q < (k + 2) * h
     go k h q c e g = omega arith
-
-    few-of : (f : Format) → prec f + emax f ≡ low f + 2
-    few-of binary32 = refl
-    few-of binary64 = refl
-
-    some : (f : Format) → 2 ≤ emax f
-    some binary32 = lib.Dec.lit≤ tt
-    some binary64 = lib.Dec.lit≤ tt
 
     fields : (z p l e : ℕ) → p + e ≡ l + 2 → 2 ≤ e → z ≤ l + suc e → z - p + 2 ≤ 2 * e + 1
     fields z p l e a b c = omega arith
@@ -217,20 +197,17 @@ no-higher f x v w a p e n l =
     let o = pattern-order f v w a p (n .held) (n .above-zero) l in
     let up : count f (after f v) ≤ count f w = subst (λ (y : Float). count f (after f v) ≤ count f y) (ofBits-toBits f w (n .held)) (count-mono f (toBits f v + 1) (toBits f w) (next (toBits f v) (toBits f w) o) (pattern-lt f w (n .held) (n .above-zero))) in
     lt-irrefl (4 * square f x)
-    (lt-trans (lt-of-lt-of-le (e .upper) (sq-le (count f v + count f (after f v)) (count f v + count f w) (add-le (count f v) (count f (after f v)) (count f w) up))) (n .lower v a (positive-finite v p) l))
+    (lt-trans (lt-of-lt-of-le (e .upper) (sq-le (count f v + count f (after f v)) (count f v + count f w) (add-le-add (le-refl (count f v)) up))) (n .lower v a (positive-finite v p) l))
   where
     next : (a b : ℕ) → a < b → a + 1 ≤ b
     next a b k = omega arith
-
-    add-le : (a b c : ℕ) → b ≤ c → a + b ≤ a + c
-    add-le a b c k = omega arith
 
 no-lower : (f : Format) (x v w : Float) → T (fits f v) → T (positive v) → Enclosed f x v → Nearest f x w → count f w < count f v → ⊥
 no-lower f x v w a p e n l =
     let o = pattern-order f w v (n .held) (n .above-zero) a p l in
     let down : count f w ≤ count f (before f v) = subst (λ (y : Float). count f y ≤ count f (before f v)) (ofBits-toBits f w (n .held)) (count-mono f (toBits f w) (toBits f v - 1) (next (toBits f w) (toBits f v) o) (less (toBits f v) (ones f * hid f) (pattern-lt f v a p))) in
     lt-irrefl (4 * square f x)
-    (lt-of-lt-of-le (n .upper v a (positive-finite v p) l) (le-trans (sq-le (count f w + count f v) (count f (before f v) + count f v) (add-le (count f w) (count f (before f v)) (count f v) down)) (weaken ((count f (before f v) + count f v) * (count f (before f v) + count f v)) (4 * square f x) (e .lower))))
+    (lt-of-lt-of-le (n .upper v a (positive-finite v p) l) (le-trans (sq-le (count f w + count f v) (count f (before f v) + count f v) (add-le-add down (le-refl (count f v)))) (le-of-lt (e .lower))))
   where
     next : (a b : ℕ) → a < b → a ≤ b - 1
     next a b k = omega arith
@@ -238,20 +215,15 @@ no-lower f x v w a p e n l =
     less : (a b : ℕ) → a < b → a - 1 < b
     less a b k = omega arith
 
-    add-le : (a b c : ℕ) → a ≤ b → a + c ≤ b + c
-    add-le a b c k = omega arith
-
-    weaken : (a b : ℕ) → a < b → a ≤ b
-    weaken a b k = omega arith
-
 -- a positive value of the format whose midpoints with its neighbours enclose the root of x is the root
 pub enclosed-unique : (f : Format) (x v : Float) → T (fits f x) → T (positive x) → T (fits f v) → T (positive v) → Enclosed f x v → v ≡ squareRoot f x
-enclosed-unique f x v h p a q e = count-unique f v (squareRoot f x) a (n .held) q (n .above-zero) (same (less-or-not (count f v) (count f (squareRoot f x))) (less-or-not (count f (squareRoot f x)) (count f v)))
-  where
-    n : Nearest f x (squareRoot f x)
-    n = squareRoot-nearest f x h p
+enclosed-unique f x v h p a q e =
+    let n : Nearest f x (squareRoot f x) = squareRoot-nearest f x h p in
+    count-unique f v (squareRoot f x) a (n .held) q (n .above-zero) (neither (count f v) (count f (squareRoot f x)) (no-higher f x v (squareRoot f x) a q e n) (no-lower f x v (squareRoot f x) a q e n))
 
-    same : (count f v < count f (squareRoot f x)) ⊎ (count f (squareRoot f x) ≤ count f v) → (count f (squareRoot f x) < count f v) ⊎ (count f v ≤ count f (squareRoot f x)) → count f v ≡ count f (squareRoot f x)
-    same (inl l) d = absurd (no-higher f x v (squareRoot f x) a q e n l)
-    same (inr g) (inl l) = absurd (no-lower f x v (squareRoot f x) a q e n l)
-    same (inr g) (inr k) = le-antisymm k g
+-- ---- so the two wordings say the same of a positive value of the format
+pub nearest-enclosed : (f : Format) (x r : Float) → T (fits f x) → T (positive x) → Nearest f x r → Enclosed f x r
+nearest-enclosed f x r h p n = subst (λ (v : Float). Enclosed f x v) (nearest-unique f x (squareRoot f x) r (squareRoot-nearest f x h p) n) (squareRoot-enclosed f x h p)
+
+pub enclosed-nearest : (f : Format) (x r : Float) → T (fits f x) → T (positive x) → T (fits f r) → T (positive r) → Enclosed f x r → Nearest f x r
+enclosed-nearest f x r h p a q e = subst (λ (v : Float). Nearest f x v) (sym (enclosed-unique f x r h p a q e)) (squareRoot-nearest f x h p)
