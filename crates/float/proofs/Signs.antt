@@ -10,6 +10,10 @@ use lib.Ieee.{Float, nan, inf, fin, binary64, odd, fits, isNan, ofFields, ofBits
 use lib.Ieee.Bits.{ofBits-toBits, is-true, is-false, nanBits-is}
 use Rattle.method.specs.Floats.{magnitude, signOf, pick}
 
+-- what owning an `f64` tells: the format holds it
+pub held : (x : Float) → fits binary64 x ≡ true → T (fits binary64 x)
+held x h = subst T (sym h) tt
+
 -- ---- the two answers of `smaller` and `larger`
 pub second : (x y : Float) (n t : Bool) → t ≡ true → y ≡ pick n y (pick t y x)
 second x y true t h = refl
