@@ -9,9 +9,8 @@ use lib.Ieee.{binary64, size, ofBits}
 use lib.Ieee.Bits.{ofBits-fits}
 use lib.Ieee.Digits.{size-lt, size-le}
 use lib.Ieee.Positive.{positive, first-pos, positive-of-value}
-use Rattle.method.specs.Root.{count, square, wholeRoot, rooted}
+use Rattle.method.specs.Root.{dropped, kept, count, square, wholeRoot, rooted}
 use Rattle.method.specs.Root.Whole.{IsRoot, whole-is, root-unique, four-pow}
-use Rattle.method.specs.Root.Laws.{dropped, kept}
 use Rattle.method.specs.Root.Written.{pow-lt-back, root-read}
 use Rattle.method.specs.Root.Patterns.{fieldCount, bits-val, bits-count}
 

@@ -13,18 +13,10 @@ use lib.Ieee.Fits.{two, odd-fits}
 use lib.Ieee.Exact.{HasValue, odd-sign}
 use lib.Ieee.Scale.{finite}
 use lib.Ieee.Positive.{positive, positive-finite, positive-of-value}
-use Rattle.method.specs.Root.{count, square, wholeRoot, rooted, squareRoot, Nearest}
+use Rattle.method.specs.Root.{count, square, dropped, kept, rooted, squareRoot, Nearest}
 use Rattle.method.specs.Root.Whole.{sq-le}
 use Rattle.method.specs.Root.Grid.{Rounded, rounded-is, near-lower, near-upper, less-or-not, neither}
 use Rattle.method.specs.Root.Counts.{count-is, Shape, shape, count-pos, count-unique}
-
--- ---- how many digits a root drops, and what is kept of it
-
-abbrev pub dropped : Format → ℕ → ℕ
-dropped f n = (size n + 1) / 2 - prec f
-
-abbrev pub kept : Format → ℕ → ℕ
-kept f n = (wholeRoot (suc (prec f)) (4 * n / 4 ^ dropped f n) + 1) / 2
 
 rooted-is : (f : Format) (n : ℕ) → rooted f n ≡ odd (suc (prec f)) false (kept f n) (dropped f n) (low f)
 unfolding rooted

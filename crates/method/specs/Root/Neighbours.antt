@@ -15,9 +15,9 @@ use lib.Ieee.Fits.{two, kept-lt}
 use lib.Ieee.Exact.{HasValue}
 use lib.Ieee.Scale.{finite}
 use lib.Ieee.Positive.{positive, positive-finite}
-use Rattle.method.specs.Root.{count, square, rooted, squareRoot, Nearest, before, after, Enclosed}
+use Rattle.method.specs.Root.{dropped, kept, count, square, rooted, squareRoot, Nearest, before, after, Enclosed}
 use Rattle.method.specs.Root.Patterns.{fieldCount, bits-val, bits-count}
-use Rattle.method.specs.Root.Laws.{dropped, kept, squareRoot-of, squareRoot-nearest, nearest-unique, square-rounding, square-top, square-fits}
+use Rattle.method.specs.Root.Laws.{squareRoot-of, squareRoot-nearest, nearest-unique, square-rounding, square-top, square-fits}
 use Rattle.method.specs.Root.Written.{squareRoot-pattern}
 use Rattle.method.specs.Root.Whole.{sq-le}
 use Rattle.method.specs.Root.Grid.{less-or-not, neither, double-hid}

@@ -11,10 +11,10 @@ use lib.Ieee.Bits.{ofBits-toBits}
 use lib.Ieee.Digits.{size-lt, size-le}
 use lib.Ieee.Fits.{two}
 use lib.Ieee.Positive.{positive}
-use Rattle.method.specs.Root.{square, rooted}
+use Rattle.method.specs.Root.{dropped, kept, square, rooted}
 use Rattle.method.specs.Root.Grid.{double-hid}
 use Rattle.method.specs.Root.Counts.{pattern, toBits-count}
-use Rattle.method.specs.Root.Laws.{dropped, kept, square-rounding, square-count, square-positive, square-fits}
+use Rattle.method.specs.Root.Laws.{square-rounding, square-count, square-positive, square-fits}
 
 pub pow-lt-back : (i p : ℕ) → 2 ^ i < 2 ^ p → i < p
 pow-lt-back i p h = lt-of-not-le (λ (g : p ≤ i). lt-irrefl (2 ^ i) (lt-of-lt-of-le h (pow-mono g)))
