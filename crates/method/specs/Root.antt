@@ -8,6 +8,7 @@ pub mod Patterns
 pub mod Laws
 pub mod Written
 pub mod Neighbours
+pub mod Enclosing
 pub mod Special
 use Prim.Native.Nat.{ℕ, zero, suc, _+_, _-_, _*_, _/_, _^_, _<_}
 use mathlib.Core.Bool.{true, false, cond}

@@ -50,8 +50,8 @@ pub record Shape (f : Format) (c : ℕ) : Type 0 where
   pub is : c ≡ digits * 2 ^ power
   pub under : c < 2 ^ (low f + suc (emax f))
 
-none : (f : Format) (e : ℤ) → zero * up e * 2 ^ low f / down e ≡ 0
-none f e = ap (λ (z : ℕ). z / down e) (ap (λ (z : ℕ). z * 2 ^ low f) (zero-mul (up e)) ∙ zero-mul (2 ^ low f) ∙ sym (zero-mul (down e))) ∙ mul-div-cancel 0 (down-pos e)
+pub count-zero : (f : Format) (e : ℤ) → zero * up e * 2 ^ low f / down e ≡ 0
+count-zero f e = ap (λ (z : ℕ). z / down e) (ap (λ (z : ℕ). z * 2 ^ low f) (zero-mul (up e)) ∙ zero-mul (2 ^ low f) ∙ sym (zero-mul (down e))) ∙ mul-div-cancel 0 (down-pos e)
 
 under-of : (f : Format) (m : ℕ) (e : ℤ) → m * up e < 2 ^ suc (emax f) * down e → m * up e * 2 ^ low f / down e < 2 ^ (low f + suc (emax f))
 under-of f m e h =
@@ -79,8 +79,8 @@ shape f (fin s zero e) h g = record {
   digits = 0;
   power = 0;
   small = pow-pos (prec f);
-  is = none f e;
-  under = subst (λ (z : ℕ). z < 2 ^ (low f + suc (emax f))) (sym (none f e)) (pow-pos (low f + suc (emax f)));
+  is = count-zero f e;
+  under = subst (λ (z : ℕ). z < 2 ^ (low f + suc (emax f))) (sym (count-zero f e)) (pow-pos (low f + suc (emax f)));
 }
 shape f (fin s (suc m) e) h g =
     let p = parts f s m e h in
