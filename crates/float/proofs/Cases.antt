@@ -8,7 +8,7 @@ use mathlib.Core.Bool.{Bool, true, false, not, true≢false}
 use lib.IntN.{ℤ, pos, negsuc}
 use lib.Dec.{T, leb, ltb, eqb→eq, lt→ltb, le→leb}
 use lib.Pow.{pow-pos}
-use lib.Ieee.{Float, nan, inf, fin, binary64, up, down, fits, isNan, ofBits, toBits, ne, div}
+use lib.Ieee.{Float, nan, inf, fin, binary64, up, down, fits, isNan, ofBits, toBits, div}
 use lib.Ieee.Bits.{ofBits-toBits, is-true, nanBits-is, nanBits-above}
 use lib.Ieee.Positive.{positive}
 use Rattle.method.specs.Root.{square, rooted, squareRoot}
@@ -43,6 +43,7 @@ at-positive x F s h =
     go b h = omega arith
 
 -- ---- negative
+
 -- a pattern past the infinity's with a clear sign is a NaN's
 above-is-nan : (b : ℕ) → 2047 * 2 ^ 52 < b → b < 2 ^ 63 → T (not (isNan (ofBits binary64 b))) → ⊥
 above-is-nan b h k n =
@@ -67,7 +68,7 @@ flat (negsuc k) h = absurd (two-up (2 ^ k) (pow-pos k) (sym (pow-succ' 2 k) ∙ 
 
 minus-zero-bits : (e : ℤ) → T (fits binary64 (fin true zero e)) → toBits binary64 (fin true zero e) ≡ 2 ^ 63
 unfolding fits toBits
-minus-zero-bits e F = ap (λ (z : ℤ). toBits binary64 (fin true zero z)) (flat e (eqb→eq (up e * down e) 1 F)) ∙ refl
+minus-zero-bits e F = ap (λ (z : ℤ). toBits binary64 (fin true zero z)) (flat e (eqb→eq (up e * down e) 1 F))
 
 signed-root : (x : Float) → T (fits binary64 x) → signed x ≡ true → (toBits binary64 x ≡ 2 ^ 63 → ⊥) → nan ≡ squareRoot binary64 x
 unfolding squareRoot
@@ -79,7 +80,7 @@ signed-root (fin true (suc m) e) F s n = refl
 signed-root (fin false m e) F s n = absurd (true≢false (sym s))
 
 pub at-negative : (x : Float) → T (fits binary64 x) → T (not (isNan x)) → 2047 * 2 ^ 52 < toBits binary64 x → (toBits binary64 x ≡ 2 ^ 63 → ⊥) → nan ≡ squareRoot binary64 x
-at-negative x F n h ne = go (less-or-not (toBits binary64 x) (2 ^ 63))
+at-negative x F n h z = go (less-or-not (toBits binary64 x) (2 ^ 63))
   where
     is : ofBits binary64 (toBits binary64 x) ≡ x
     is = ofBits-toBits binary64 x F
@@ -89,9 +90,9 @@ at-negative x F n h ne = go (less-or-not (toBits binary64 x) (2 ^ 63))
 
     go : (toBits binary64 x < 2 ^ 63) ⊎ (2 ^ 63 ≤ toBits binary64 x) → nan ≡ squareRoot binary64 x
     go (inl l) = absurd (above-is-nan (toBits binary64 x) h l n′)
-    go (inr g) = signed-root x F (bits-signed x F n ∙ is-true (leb (2 ^ 63) (toBits binary64 x)) (le→leb (2 ^ 63) (toBits binary64 x) g)) ne
+    go (inr g) = signed-root x F (bits-signed x F n ∙ is-true (leb (2 ^ 63) (toBits binary64 x)) (le→leb (2 ^ 63) (toBits binary64 x) g)) z
 
--- 0.0 / 0.0, as MIR has it
+-- 0.0 / 0.0, by the patterns of its literals
 pub zero-by-zero : div binary64 (ofBits binary64 0) (ofBits binary64 0) ≡ nan
 unfolding div ofBits
 zero-by-zero = refl
