@@ -71,6 +71,12 @@ pub(crate) fn count(text: &[u8]) -> u64 {
     (text.len() / 34) as u64
 }
 
+// Prints what is left where a line should be.
+fn show_rest(rest: &[u8]) {
+    io::write_all(1, rest);
+    io::write_all(1, b"\n");
+}
+
 // Prints each line that does not agree and answers how many there are; a rest that is no line
 // counts too.
 pub(crate) fn compare(text: &[u8]) -> u64 {
@@ -85,7 +91,7 @@ pub(crate) fn compare(text: &[u8]) -> u64 {
         at += 34;
     }
     if at < text.len() {
-        io::write_all(1, &text[at..]);
+        show_rest(&text[at..]);
         differ += 1;
     }
     differ
