@@ -28,7 +28,7 @@ module _ (n X h : ℕ) (lo : 2 ^ 52 ≤ X) (hi : X < 2 ^ 54) (is : n ≡ X * 2 ^
       go : (h : ℕ) → 54 + (h + h + 52) ≤ 106 + (h + h)
       go h = omega arith
 
-  pub dropped-is : dropped binary64 n ≡ h
+  dropped-is : dropped binary64 n ≡ h
   dropped-is = go (size n) h size-lo size-hi
     where
       go : (z h : ℕ) → 104 + (h + h) < z → z ≤ 106 + (h + h) → (z + 1) / 2 - 53 ≡ h
@@ -43,7 +43,7 @@ module _ (n X h : ℕ) (lo : 2 ^ 52 ≤ X) (hi : X < 2 ^ 54) (is : n ≡ X * 2 ^
       go : (x d : ℕ) → 4 * (x * (d * 2 ^ 52)) ≡ x * 2 ^ 54 * d
       go x d = omega arith
 
-  pub kept-is : (R : ℕ) → IsRoot (X * 2 ^ 54) R → kept binary64 n ≡ (R + 1) / 2
+  kept-is : (R : ℕ) → IsRoot (X * 2 ^ 54) R → kept binary64 n ≡ (R + 1) / 2
   kept-is R r =
       ap (λ (k : ℕ). (wholeRoot 54 (4 * n / 4 ^ k) + 1) / 2) dropped-is
       ∙ ap (λ (z : ℕ). (wholeRoot 54 z + 1) / 2) (ap (λ (z : ℕ). z / 4 ^ h) four-n ∙ mul-div-cancel (X * 2 ^ 54) four-pos)

@@ -53,19 +53,19 @@ module _ (f : Format) (n m a : ℕ) (least : 2 ^ low f ≤ n) (small : m < 2 ^ p
       go : (z p : ℕ) → z ≤ p + ((z + 1) / 2 - p) + (p + ((z + 1) / 2 - p))
       go z p = omega arith
 
-  pub rounding : Rounded (prec f) (dropped f n) n (kept f n)
+  rounding : Rounded (prec f) (dropped f n) n (kept f n)
   rounding = rounded-is (prec f) (dropped f n) n m a (two f) lo hi small is
 
-  pub value : HasValue (rooted f n) false (kept f n * 2 ^ dropped f n) (2 ^ low f)
+  value : HasValue (rooted f n) false (kept f n * 2 ^ dropped f n) (2 ^ low f)
   value = subst (λ (x : Float). HasValue x false (kept f n * 2 ^ dropped f n) (2 ^ low f)) (sym (rooted-is f n)) (odd-sign (suc (prec f)) false (kept f n) (dropped f n) (low f))
 
-  pub rooted-count : count f (rooted f n) ≡ kept f n * 2 ^ dropped f n
+  rooted-count : count f (rooted f n) ≡ kept f n * 2 ^ dropped f n
   rooted-count = count-is f (rooted f n) false (kept f n * 2 ^ dropped f n) value
 
-  pub rooted-positive : T (positive (rooted f n))
+  rooted-positive : T (positive (rooted f n))
   rooted-positive = positive-of-value (rooted f n) (kept f n * 2 ^ dropped f n) (2 ^ low f) value (mul-pos (lt-of-lt-of-le (pow-pos (prec f - 1)) (rounding .least)) (pow-pos (dropped f n)))
 
-  pub rooted-fits : n < 2 ^ (low f + low f + suc (emax f)) → T (fits f (rooted f n))
+  rooted-fits : n < 2 ^ (low f + low f + suc (emax f)) → T (fits f (rooted f n))
   rooted-fits top =
       subst (λ (x : Float). T (fits f x)) (sym (rooted-is f n))
       (odd-fits f (suc (prec f)) false (kept f n) (dropped f n) (lt-of-le-of-lt (rounding .most) (pow-lt (up (prec f)))) (rounding .most)
@@ -93,7 +93,7 @@ module _ (f : Format) (x : Float) (h : T (fits f x)) (p : T (positive x)) where
   sh : Shape f (count f x)
   sh = shape f x h (positive-finite x p)
 
-  pub square-least : 2 ^ low f ≤ square f x
+  square-least : 2 ^ low f ≤ square f x
   square-least = le-trans (le-of-eq (sym (one-mul (2 ^ low f)))) (mul-le-mul-right (2 ^ low f) (count-pos f x h p))
 
   square-is : square f x ≡ sh .digits * 2 ^ (sh .power + low f)

@@ -74,7 +74,7 @@ fields-step f b = go (eq-or-lt-of-le (mod-lt b (pow-pos (prec f - 1))))
         (subst (λ (z : ℕ). fieldCount f (b / hid f) (b % hid f) < fieldCount f (b / hid f) z) (sym (digits-mod (b / hid f) l))
         (same-field f (b / hid f) (b % hid f))))
 
-pub count-step : (f : Format) (b : ℕ) → b + 1 < ones f * hid f → count f (ofBits f b) < count f (ofBits f (b + 1))
+count-step : (f : Format) (b : ℕ) → b + 1 < ones f * hid f → count f (ofBits f b) < count f (ofBits f (b + 1))
 count-step f b h =
     subst (λ (z : ℕ). z < count f (ofBits f (b + 1))) (sym (bits-count f b (less b (ones f * hid f) h)))
     (subst (λ (z : ℕ). fieldCount f (b / hid f) (b % hid f) < z) (sym (bits-count f (b + 1) h)) (fields-step f b))

@@ -28,7 +28,7 @@ under-top f b h = lt-of-lt-of-le h (lt-of (ones f) (hid f))
     lt-of : (o h : ℕ) → o * h ≤ h * suc o
     lt-of o h = omega arith
 
-pub unsigned : (f : Format) (b : ℕ) → b < ones f * hid f → ofBits f b ≡ ofFields f false (b / hid f) (b % hid f)
+unsigned : (f : Format) (b : ℕ) → b < ones f * hid f → ofBits f b ≡ ofFields f false (b / hid f) (b % hid f)
 unsigned f b h =
     let l = under-top f b h in
     ofBits-is f b
