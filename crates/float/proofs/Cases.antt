@@ -1,39 +1,26 @@
 -- `square_root`'s cases by the bit pattern: what the value is, and what its root is. Assumes nothing.
 use mathlib.Core.Path.{_≡_, refl, sym, ap, _∙_, subst}
 use mathlib.Core.Logic.{_⊎_, inl, inr}
-use Prim.Native.Nat.{ℕ, zero, suc, _+_, _-_, _*_, _/_, _%_, _^_, _≤_, _<_}
-use native.Mathlib.Nat.{mod-eq-of-lt, mul-pos, mul-one, one-mul, pow-succ', lt-irrefl}
+use Prim.Native.Nat.{ℕ, zero, suc, _+_, _*_, _/_, _%_, _^_, _≤_, _<_}
+use native.Mathlib.Nat.{mul-pos, mul-one, one-mul, pow-succ'}
 use native.Mathlib.Omega.{arith}
-use mathlib.Core.Bool.{Bool, true, false, not, cond, true≢false}
+use mathlib.Core.Bool.{Bool, true, false, not, true≢false}
 use lib.IntN.{ℤ, pos, negsuc}
-use lib.Dec.{T, leb, ltb, eqb, eqb→eq, lt→ltb, le→leb}
+use lib.Dec.{T, leb, ltb, eqb→eq, lt→ltb, le→leb}
 use lib.Pow.{pow-pos}
-use lib.Ieee.{Float, nan, inf, fin, Format, binary64, prec, low, up, down, odd, fits, isNan, ofFields, ofBits, toBits, nanBits, ne, div}
+use lib.Ieee.{Float, nan, inf, fin, binary64, up, down, fits, isNan, ofBits, toBits, div}
 use lib.Ieee.Bits.{ofBits-toBits, is-true, nanBits-is, nanBits-above}
-use lib.Ieee.Compare.{differs-from-itself, nan-differs}
 use lib.Ieee.Positive.{positive}
-use Rattle.method.specs.Root.{count, square, rooted, squareRoot}
+use Rattle.method.specs.Root.{square, rooted, squareRoot}
 use Rattle.method.specs.Root.Grid.{less-or-not}
 use Rattle.method.specs.Root.Laws.{squareRoot-of}
 use Rattle.method.specs.Root.Patterns.{fieldCount, bits-count}
 use Rattle.float.proofs.Signs.{signed, bits-signed}
 use Rattle.float.proofs.Joined.{bits-positive}
 
--- ---- the three patterns whose values stay
-stays : (x : Float) (b : ℕ) → T (fits binary64 x) → toBits binary64 x ≡ b → ofBits binary64 b ≡ squareRoot binary64 (ofBits binary64 b) → x ≡ squareRoot binary64 x
-stays x b F e k = subst (λ (y : Float). y ≡ squareRoot binary64 y) (ap (λ (z : ℕ). ofBits binary64 z) (sym e) ∙ ofBits-toBits binary64 x F) k
-
-pub at-zero : (x : Float) → T (fits binary64 x) → toBits binary64 x ≡ 0 → x ≡ squareRoot binary64 x
-unfolding squareRoot ofBits
-at-zero x F e = stays x 0 F e refl
-
-pub at-minus-zero : (x : Float) → T (fits binary64 x) → toBits binary64 x ≡ 2 ^ 63 → x ≡ squareRoot binary64 x
-unfolding squareRoot ofBits
-at-minus-zero x F e = stays x (2 ^ 63) F e refl
-
-pub at-infinity : (x : Float) → T (fits binary64 x) → toBits binary64 x ≡ 2047 * 2 ^ 52 → x ≡ squareRoot binary64 x
-unfolding squareRoot ofBits
-at-infinity x F e = stays x (2047 * 2 ^ 52) F e refl
+-- what holds of the value of a pattern holds of each value with that pattern
+pub at-pattern : (P : Float → Type 0) (x : Float) (b : ℕ) → T (fits binary64 x) → toBits binary64 x ≡ b → P (ofBits binary64 b) → P x
+at-pattern P x b F e p = subst P (ap (λ (z : ℕ). ofBits binary64 z) (sym e) ∙ ofBits-toBits binary64 x F) p
 
 -- ---- positive
 field-some : (x t : ℕ) → 0 < x * 2 ^ 52 + t → 0 < fieldCount binary64 x t
@@ -55,16 +42,8 @@ at-positive x F s h =
     go : (b : ℕ) → 0 < b → 0 < b / 2 ^ 52 * 2 ^ 52 + b % 2 ^ 52
     go b h = omega arith
 
-pub finite-no-nan : (r : ℕ) → r < 2047 * 2 ^ 52 → T (not (nanBits binary64 r))
-finite-no-nan r h = subst (λ (t : Bool). T (not t)) (sym (nanBits-above binary64 r)) (go r h)
-  where
-    le-no : (a b : ℕ) → b ≤ a → T (not (ltb a b))
-    le-no a b k = lib.Arith.le→nltb a b k
-
-    go : (r : ℕ) → r < 2047 * 2 ^ 52 → T (not (ltb (2047 * 2 ^ 52) (r % 2 ^ 63)))
-    go r k = le-no (2047 * 2 ^ 52) (r % 2 ^ 63) (omega arith)
-
 -- ---- negative
+
 -- a pattern past the infinity's with a clear sign is a NaN's
 above-is-nan : (b : ℕ) → 2047 * 2 ^ 52 < b → b < 2 ^ 63 → T (not (isNan (ofBits binary64 b))) → ⊥
 above-is-nan b h k n =
@@ -89,7 +68,7 @@ flat (negsuc k) h = absurd (two-up (2 ^ k) (pow-pos k) (sym (pow-succ' 2 k) ∙ 
 
 minus-zero-bits : (e : ℤ) → T (fits binary64 (fin true zero e)) → toBits binary64 (fin true zero e) ≡ 2 ^ 63
 unfolding fits toBits
-minus-zero-bits e F = ap (λ (z : ℤ). toBits binary64 (fin true zero z)) (flat e (eqb→eq (up e * down e) 1 F)) ∙ refl
+minus-zero-bits e F = ap (λ (z : ℤ). toBits binary64 (fin true zero z)) (flat e (eqb→eq (up e * down e) 1 F))
 
 signed-root : (x : Float) → T (fits binary64 x) → signed x ≡ true → (toBits binary64 x ≡ 2 ^ 63 → ⊥) → nan ≡ squareRoot binary64 x
 unfolding squareRoot
@@ -101,7 +80,7 @@ signed-root (fin true (suc m) e) F s n = refl
 signed-root (fin false m e) F s n = absurd (true≢false (sym s))
 
 pub at-negative : (x : Float) → T (fits binary64 x) → T (not (isNan x)) → 2047 * 2 ^ 52 < toBits binary64 x → (toBits binary64 x ≡ 2 ^ 63 → ⊥) → nan ≡ squareRoot binary64 x
-at-negative x F n h ne = go (less-or-not (toBits binary64 x) (2 ^ 63))
+at-negative x F n h z = go (less-or-not (toBits binary64 x) (2 ^ 63))
   where
     is : ofBits binary64 (toBits binary64 x) ≡ x
     is = ofBits-toBits binary64 x F
@@ -111,9 +90,9 @@ at-negative x F n h ne = go (less-or-not (toBits binary64 x) (2 ^ 63))
 
     go : (toBits binary64 x < 2 ^ 63) ⊎ (2 ^ 63 ≤ toBits binary64 x) → nan ≡ squareRoot binary64 x
     go (inl l) = absurd (above-is-nan (toBits binary64 x) h l n′)
-    go (inr g) = signed-root x F (bits-signed x F n ∙ is-true (leb (2 ^ 63) (toBits binary64 x)) (le→leb (2 ^ 63) (toBits binary64 x) g)) ne
+    go (inr g) = signed-root x F (bits-signed x F n ∙ is-true (leb (2 ^ 63) (toBits binary64 x)) (le→leb (2 ^ 63) (toBits binary64 x) g)) z
 
--- 0.0 / 0.0, as MIR has it
+-- 0.0 / 0.0, by the patterns of its literals
 pub zero-by-zero : div binary64 (ofBits binary64 0) (ofBits binary64 0) ≡ nan
 unfolding div ofBits
 zero-by-zero = refl

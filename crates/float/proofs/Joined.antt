@@ -1,19 +1,16 @@
 -- The pattern that `root_bits` joins from half of the power and the root's digits is the pattern of `rooted`. Assumes nothing.
-use mathlib.Core.Path.{_≡_, refl, sym, ap, _∙_, subst}
-use mathlib.Core.Logic.{_⊎_, inl, inr}
-use Prim.Native.Nat.{ℕ, zero, suc, _+_, _-_, _*_, _/_, _%_, _^_, _≤_, _<_}
-use native.Mathlib.Nat.{le-trans, le-of-eq, le-antisymm, lt-of-lt-of-le, lt-of-le-of-lt, lt-irrefl, lt-of-not-le, eq-or-lt-of-le, mul-comm, mul-assoc, mul-pos, mul-le-mul-right, mul-lt-mul-of-pos-right, mul-div-cancel, pow-succ', one-mul}
+use mathlib.Core.Path.{_≡_, sym, ap, _∙_, subst}
+use Prim.Native.Nat.{ℕ, suc, _+_, _-_, _*_, _/_, _%_, _^_, _≤_, _<_}
+use native.Mathlib.Nat.{le-trans, le-of-eq, lt-of-lt-of-le, lt-of-le-of-lt, mul-assoc, mul-pos, mul-le-mul-right, mul-div-cancel, pow-succ'}
 use native.Mathlib.Omega.{arith}
-use lib.Dec.{T, lit≤}
-use lib.Pow.{pow-pos, pow-mono, pow-lt, pow-add, shl-lt}
-use lib.Ieee.{Float, Format, binary64, prec, emax, low, hid, size, fits, ofBits, toBits}
-use lib.Ieee.Bits.{ofBits-toBits, ofBits-fits}
-use lib.Ieee.Digits.{size-lt, size-le, size-reaches}
-use lib.Ieee.Fits.{two}
+use lib.Dec.{T}
+use lib.Pow.{pow-pos, pow-mono, pow-add, shl-lt}
+use lib.Ieee.{binary64, size, ofBits}
+use lib.Ieee.Bits.{ofBits-fits}
+use lib.Ieee.Digits.{size-lt, size-le}
 use lib.Ieee.Positive.{positive, first-pos, positive-of-value}
-use Rattle.method.specs.Root.{count, square, wholeRoot, rooted}
+use Rattle.method.specs.Root.{dropped, kept, count, square, wholeRoot, rooted}
 use Rattle.method.specs.Root.Whole.{IsRoot, whole-is, root-unique, four-pow}
-use Rattle.method.specs.Root.Laws.{dropped, kept}
 use Rattle.method.specs.Root.Written.{pow-lt-back, root-read}
 use Rattle.method.specs.Root.Patterns.{fieldCount, bits-val, bits-count}
 
@@ -31,7 +28,7 @@ module _ (n X h : ℕ) (lo : 2 ^ 52 ≤ X) (hi : X < 2 ^ 54) (is : n ≡ X * 2 ^
       go : (h : ℕ) → 54 + (h + h + 52) ≤ 106 + (h + h)
       go h = omega arith
 
-  pub dropped-is : dropped binary64 n ≡ h
+  dropped-is : dropped binary64 n ≡ h
   dropped-is = go (size n) h size-lo size-hi
     where
       go : (z h : ℕ) → 104 + (h + h) < z → z ≤ 106 + (h + h) → (z + 1) / 2 - 53 ≡ h
@@ -46,7 +43,7 @@ module _ (n X h : ℕ) (lo : 2 ^ 52 ≤ X) (hi : X < 2 ^ 54) (is : n ≡ X * 2 ^
       go : (x d : ℕ) → 4 * (x * (d * 2 ^ 52)) ≡ x * 2 ^ 54 * d
       go x d = omega arith
 
-  pub kept-is : (R : ℕ) → IsRoot (X * 2 ^ 54) R → kept binary64 n ≡ (R + 1) / 2
+  kept-is : (R : ℕ) → IsRoot (X * 2 ^ 54) R → kept binary64 n ≡ (R + 1) / 2
   kept-is R r =
       ap (λ (k : ℕ). (wholeRoot 54 (4 * n / 4 ^ k) + 1) / 2) dropped-is
       ∙ ap (λ (z : ℕ). (wholeRoot 54 z + 1) / 2) (ap (λ (z : ℕ). z / 4 ^ h) four-n ∙ mul-div-cancel (X * 2 ^ 54) four-pos)

@@ -1,10 +1,10 @@
 -- The turn of the loop that brings a value's digits to 53, on plain numbers. Assumes nothing.
-use mathlib.Core.Path.{_≡_, refl, sym, ap, _∙_, subst}
+use mathlib.Core.Path.{_≡_, sym, ap, _∙_, subst}
 use Prim.Native.Nat.{ℕ, zero, suc, _+_, _-_, _*_, _/_, _%_, _^_, _≤_, _<_}
-use native.Mathlib.Nat.{le-trans, le-of-eq, lt-of-lt-of-le, lt-irrefl, lt-of-le-of-lt, zero-lt-suc, pow-succ', mul-comm, mul-assoc, mul-one, one-mul, mul-pos, mul-le-mul-right}
+use native.Mathlib.Nat.{le-trans, le-of-eq, lt-of-lt-of-le, lt-irrefl, zero-lt-suc, pow-succ', mul-assoc, mul-one, one-mul, mul-le-mul-right}
 use native.Mathlib.Omega.{arith}
 use lib.Dec.{lit≤}
-use lib.Pow.{pow-pos, pow-mono, pow-add}
+use lib.Pow.{pow-mono, pow-add}
 use lib.Ieee.{binary64, ofBits}
 use lib.Ieee.Positive.{first-pos}
 use Rattle.method.specs.Root.{count}

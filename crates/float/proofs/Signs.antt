@@ -1,28 +1,18 @@
 -- What a test for NaN and the highest bit of the pattern tell of a double. Assumes nothing.
 use mathlib.Core.Path.{_≡_, refl, sym, ap, _∙_, subst}
-use Prim.Native.Nat.{ℕ, zero, suc, _+_, _*_, _/_, _%_, _^_, _≤_, _<_}
-use native.Mathlib.Nat.{mod-lt, mod-eq-of-lt}
+use Prim.Native.Nat.{ℕ, zero, suc, _+_, _/_, _%_, _^_, _≤_, _<_}
 use native.Mathlib.Omega.{arith}
 use mathlib.Core.Bool.{Bool, true, false, not, cond, true≢false}
 use lib.IntN.{pos}
 use lib.Dec.{T, leb, eqb, le→leb}
 use lib.Arith.{lt→nleb}
-use lib.Ieee.{Float, nan, inf, fin, binary64, odd, fits, isNan, ofFields, ofBits, toBits, nanBits, ne}
+use lib.Ieee.{Float, nan, inf, fin, binary64, odd, fits, isNan, ofFields, ofBits, toBits, nanBits}
 use lib.Ieee.Bits.{ofBits-toBits, is-true, is-false, nanBits-is}
-use lib.Ieee.Compare.{differs-from-itself, nan-differs}
 use Rattle.method.specs.Floats.{magnitude, signOf, pick}
 
--- ---- the test x != x
-
--- where it passes, x is the NaN
-pub at-nan : (P : Float → Type 0) (x : Float) → ne x x ≡ true → P nan → P x
-at-nan P x h p = subst P (sym (differs-from-itself x (subst T (sym h) tt))) p
-
-pub no-nan : (x : Float) → ne x x ≡ false → T (not (isNan x))
-unfolding isNan
-no-nan nan h = absurd (true≢false (sym nan-differs ∙ h))
-no-nan (inf s) h = tt
-no-nan (fin s m e) h = tt
+-- what owning an `f64` tells: the format holds it
+pub held : (x : Float) → fits binary64 x ≡ true → T (fits binary64 x)
+held x h = subst T (sym h) tt
 
 -- ---- the two answers of `smaller` and `larger`
 pub second : (x y : Float) (n t : Bool) → t ≡ true → y ≡ pick n y (pick t y x)

@@ -33,10 +33,7 @@ pub fn sign(x: f64) -> f64
 pub fn smaller(x: f64, y: f64) -> f64
     ensures { λ r. ⌜ r ≡ smaller x y ⌝ }
 {
-    if x != x {
-        return y;
-    }
-    if y < x {
+    if x != x || y < x {
         return y;
     }
     x
@@ -46,10 +43,7 @@ pub fn smaller(x: f64, y: f64) -> f64
 pub fn larger(x: f64, y: f64) -> f64
     ensures { λ r. ⌜ r ≡ larger x y ⌝ }
 {
-    if x != x {
-        return y;
-    }
-    if x < y {
+    if x != x || x < y {
         return y;
     }
     x
@@ -125,17 +119,19 @@ pub fn square_root(x: f64) -> f64
         return x;
     }
     let bits = f64::to_bits(x);
-    if bits > 0 {
-        if bits < 0x7ff0_0000_0000_0000 {
-            return f64::from_bits(root_bits(bits));
-        }
-        if bits > 0x7ff0_0000_0000_0000 {
-            if bits != 0x8000_0000_0000_0000 {
-                return 0.0 / 0.0;
-            }
-        }
+    if bits == 0x8000_0000_0000_0000 {
+        return -0.0;
     }
-    x
+    if bits > 0x7ff0_0000_0000_0000 {
+        return 0.0 / 0.0;
+    }
+    if bits == 0 {
+        return 0.0;
+    }
+    if bits == 0x7ff0_0000_0000_0000 {
+        return x;
+    }
+    f64::from_bits(root_bits(bits))
 }
 
 // The same root, for Rust and C to call.

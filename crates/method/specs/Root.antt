@@ -8,10 +8,10 @@ pub mod Patterns
 pub mod Laws
 pub mod Written
 pub mod Neighbours
-use mathlib.Core.Path.{_≡_}
+pub mod Enclosing
+pub mod Special
 use Prim.Native.Nat.{ℕ, zero, suc, _+_, _-_, _*_, _/_, _^_, _<_}
-use mathlib.Core.Bool.{Bool, true, false, cond}
-use lib.IntN.{ℤ, pos, negsuc}
+use mathlib.Core.Bool.{true, false, cond}
 use lib.Dec.{T, leb}
 use lib.Ieee.{Float, nan, inf, fin, Format, prec, low, up, down, size, odd, fits, ofBits, toBits}
 use lib.Ieee.Scale.{finite}
@@ -38,13 +38,18 @@ unfoldable pub wholeRoot : ℕ → ℕ → ℕ
 wholeRoot zero n = 0
 wholeRoot (suc d) n = digit n (wholeRoot d (n / 4))
 
--- The value of the format that is nearest to √n smallest values. The whole part of √n has half as many digits as n, rounded up. The format keeps `prec` of them, and drops k.
--- √n / 2 ^ k is rounded to the nearest whole number: half of one more than the whole part of its double.
+-- How many binary digits of √n the format drops. The whole part of √n has half as many as n, rounded up, and the format keeps `prec` of them.
+abbrev pub dropped : Format → ℕ → ℕ
+dropped f n = (size n + 1) / 2 - prec f
+
+-- √n without them, rounded to the nearest whole number: half of one more than the whole part of its double
+abbrev pub kept : Format → ℕ → ℕ
+kept f n = (wholeRoot (suc (prec f)) (4 * n / 4 ^ dropped f n) + 1) / 2
+
+-- the value of the format that is nearest to √n smallest values
 unfoldable pub rooted : Format → ℕ → Float
 unfolding size odd wholeRoot
-rooted f n =
-    let k = (size n + 1) / 2 - prec f in
-    odd (suc (prec f)) false ((wholeRoot (suc (prec f)) (4 * n / 4 ^ k) + 1) / 2) k (low f)
+rooted f n = odd (suc (prec f)) false (kept f n) (dropped f n) (low f)
 
 -- -0 and +0 stay. Below zero and at NaN the result is NaN. +infinity stays.
 unfoldable pub squareRoot : Format → Float → Float

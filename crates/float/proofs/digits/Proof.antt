@@ -1,13 +1,9 @@
 -- `float::digits` meets its contract.
-use Prim.Native.Nat.{ℕ, _+_, _*_, _^_, _≤_, _<_}
-use mathlib.Core.Path.{_≡_}
+use Prim.Native.Nat.{_*_, _^_}
 use native.Mathlib.Omega.{arith}
-use borrow.Author.Needs.{needs}
 use Rattle.float.proofs.Loop.{Found, start, skip, take, done}
 use Rattle.float.proofs.digits.Statement.{statement}
 use Rattle.float.proofs.digits.Tie as tie
-use Rattle.float.proofs.digits.Reads as reads
-use Rattle.float.proofs.digits.Lts as lts
 
 abbrev Inv-loop : tie.InvT-loop
 Inv-loop x twice₀ rest₀ bit₀ twice rest bit = Found (x * 2 ^ 54) twice rest bit

@@ -1,26 +1,24 @@
 -- `float::larger` meets its contract.
+use mathlib.Core.Logic.{⊎-elim}
 use mathlib.Core.Path.{_≡_, refl}
 use lib.Ieee.{isNan, lt}
 use Rattle.method.specs.Floats.{larger}
-use Rattle.float.proofs.Signs.{at-nan, no-nan, first, second}
+use Rattle.method.specs.Nans.{at-nan, no-nan}
+use Rattle.float.proofs.Signs.{first, second}
 use Rattle.float.proofs.larger.Statement.{statement}
 use Rattle.float.proofs.larger.Tie as tie
 
 returns : tie.Need-returns
 unfolding larger isNan
-returns c = at-nan (λ x. c .before .args .y ≡ larger x (c .before .args .y)) (c .before .args .x) (c .if1 .taken) refl
+returns c =
+    let a = c .before .args in
+    ⊎-elim (λ w. at-nan (λ x. a .y ≡ larger x (a .y)) (a .x) (w .taken) refl) (λ w. second (a .x) (a .y) (isNan (a .x)) (lt (a .x) (a .y)) (w .1 .taken)) (c .if1 .came)
 
 returns-2 : tie.Need-returns-2
 unfolding larger
 returns-2 c =
     let a = c .before .before .args in
-    second (a .x) (a .y) (isNan (a .x)) (lt (a .x) (a .y)) (c .if2 .taken)
-
-returns-3 : tie.Need-returns-3
-unfolding larger
-returns-3 c =
-    let a = c .before .before .args in
     first (a .x) (a .y) (isNan (a .x)) (lt (a .x) (a .y)) (no-nan (a .x) (c .before .if1 .left)) (c .if2 .left)
 
 pub larger-spec : {M : Type 1} → statement M
-larger-spec = tie.close (tie.spec returns returns-2 returns-3)
+larger-spec = tie.close (tie.spec returns returns-2)

@@ -1,18 +1,11 @@
 -- `float::magnitude` meets its contract.
-use mathlib.Core.Path.{_≡_, refl, sym, subst}
+use mathlib.Core.Path.{_≡_, refl}
 use native.Mathlib.Omega.{arith}
-use lib.Dec.{T}
-use lib.Ieee.{binary64, fits}
 use Rattle.method.specs.Floats.{magnitude}
-use Rattle.float.proofs.Signs.{at-nan, no-nan, cleared, cleared-no-nan}
+use Rattle.method.specs.Nans.{at-nan, no-nan}
+use Rattle.float.proofs.Signs.{held, cleared, cleared-no-nan}
 use Rattle.float.proofs.magnitude.Statement.{statement}
 use Rattle.float.proofs.magnitude.Tie as tie
-use Rattle.float.proofs.magnitude.Reads as reads
-use Rattle.float.proofs.magnitude.Lts as lts
-
--- what owning an `f64` tells: the format holds it
-held : (c : tie.Start) → T (fits binary64 (c .args .x))
-held c = subst T (sym (c .good .0 .1)) tt
 
 returns : tie.Need-returns
 unfolding magnitude
@@ -22,10 +15,10 @@ float-to-bits-result : tie.Need-float-to-bits-result
 float-to-bits-result c = no-nan (c .before .args .x) (c .if1 .left)
 
 float-from-bits-result : tie.Need-float-from-bits-result
-float-from-bits-result c = cleared-no-nan (c .before .args .x) _ (held (c .before)) (no-nan (c .before .args .x) (c .if1 .left)) (omega arith)
+float-from-bits-result c = cleared-no-nan (c .before .args .x) _ (held (c .before .args .x) (c .before .good .0 .1)) (no-nan (c .before .args .x) (c .if1 .left)) (omega arith)
 
 returns-2 : tie.Need-returns-2
-returns-2 c = cleared (c .before .args .x) _ (held (c .before)) (omega arith)
+returns-2 c = cleared (c .before .args .x) _ (held (c .before .args .x) (c .before .good .0 .1)) (omega arith)
 
 pub magnitude-spec : {M : Type 1} → statement M
 magnitude-spec = tie.close (tie.spec returns float-to-bits-result float-from-bits-result returns-2)

@@ -1,16 +1,12 @@
 -- `float::normalised` meets its contract.
-use Prim.Native.Nat.{ℕ, _+_, _-_, _*_, _/_, _%_, _^_, _≤_, _<_}
-use mathlib.Core.Path.{_≡_, sym, subst}
+use Prim.Native.Nat.{_+_, _/_, _%_, _^_}
 use mathlib.Core.Logic.{⊎-elim}
 use native.Mathlib.Omega.{arith}
-use borrow.Author.Needs.{needs}
 use lib.Ieee.{binary64, ofBits}
 use Rattle.method.specs.Root.{count}
 use Rattle.float.proofs.Level.{Level, start-low, start-high, turn, power-pos, level-at}
 use Rattle.float.proofs.normalised.Statement.{statement}
 use Rattle.float.proofs.normalised.Tie as tie
-use Rattle.float.proofs.normalised.Reads as reads
-use Rattle.float.proofs.normalised.Lts as lts
 
 abbrev Inv-loop : tie.InvT-loop
 Inv-loop bits field digits₀ power₀ digits power = Level (count binary64 (ofBits binary64 bits)) digits power

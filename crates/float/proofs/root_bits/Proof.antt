@@ -1,16 +1,12 @@
 -- `float::root_bits` meets its contract.
-use Prim.Native.Nat.{ℕ, _+_, _-_, _*_, _/_, _%_, _^_, _≤_, _<_}
-use mathlib.Core.Path.{_≡_, sym, subst}
+use Prim.Native.Nat.{_+_, _*_, _/_, _%_, _^_, _≤_, _<_}
+use mathlib.Core.Path.{_≡_}
 use mathlib.Core.Logic.{⊎-elim}
 use native.Mathlib.Omega.{arith}
 use borrow.Author.Needs.{needs}
 use Rattle.float.proofs.Joined.{twice-odd, once-even, joined}
 use Rattle.float.proofs.root_bits.Statement.{statement}
 use Rattle.float.proofs.root_bits.Tie as tie
-use Rattle.float.proofs.root_bits.Reads as reads
-use Rattle.float.proofs.root_bits.Lts as lts
-use Rattle.float.proofs.digits.Reads as digits-reads
-use Rattle.float.proofs.normalised.Reads as normalised-reads
 
 normalised-requires : tie.Need-normalised-requires
 normalised-requires c κs = search needs

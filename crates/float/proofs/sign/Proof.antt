@@ -1,18 +1,11 @@
 -- `float::sign` meets its contract.
-use mathlib.Core.Path.{_≡_, refl, sym, subst, _∙_}
-use native.Mathlib.Omega.{arith}
-use lib.Dec.{T}
-use lib.Ieee.{binary64, fits, ofBits, neg}
+use mathlib.Core.Path.{_≡_, refl}
+use lib.Ieee.{ofBits, neg}
 use Rattle.method.specs.Floats.{signOf}
-use Rattle.float.proofs.Signs.{at-nan, no-nan, sign-clear, sign-set}
+use Rattle.method.specs.Nans.{at-nan, no-nan}
+use Rattle.float.proofs.Signs.{held, sign-clear, sign-set}
 use Rattle.float.proofs.sign.Statement.{statement}
 use Rattle.float.proofs.sign.Tie as tie
-use Rattle.float.proofs.sign.Reads as reads
-use Rattle.float.proofs.sign.Lts as lts
-
--- what owning an `f64` tells: the format holds it
-held : (c : tie.Start) → T (fits binary64 (c .args .x))
-held c = subst T (sym (c .good .0 .1)) tt
 
 returns : tie.Need-returns
 unfolding signOf
@@ -25,13 +18,13 @@ returns-2 : tie.Need-returns-2
 unfolding ofBits
 returns-2 c =
     let st = c .before .before in
-    sign-clear (st .args .x) (held st) (no-nan (st .args .x) (c .before .if1 .left)) (c .if2 .taken)
+    sign-clear (st .args .x) (held (st .args .x) (st .good .0 .1)) (no-nan (st .args .x) (c .before .if1 .left)) (c .if2 .taken)
 
 returns-3 : tie.Need-returns-3
 unfolding ofBits neg
 returns-3 c =
     let st = c .before .before in
-    sign-set (st .args .x) (held st) (no-nan (st .args .x) (c .before .if1 .left)) (c .if2 .left)
+    sign-set (st .args .x) (held (st .args .x) (st .good .0 .1)) (no-nan (st .args .x) (c .before .if1 .left)) (c .if2 .left)
 
 pub sign-spec : {M : Type 1} → statement M
 sign-spec = tie.close (tie.spec returns float-to-bits-if2 returns-2 returns-3)

@@ -1,13 +1,11 @@
 -- How many smallest values a value of a format is: a number of `prec` digits times a power of two, and the value again is known from it. Assumes nothing.
-use mathlib.Core.Path.{_≡_, refl, sym, ap, _∙_, subst}
-use mathlib.Core.Logic.{_⊎_, inl, inr}
+use mathlib.Core.Path.{_≡_, sym, ap, _∙_, subst}
 use Prim.Native.Nat.{ℕ, zero, suc, _+_, _-_, _*_, _/_, _%_, _^_, _≤_, _<_}
-use native.Mathlib.Nat.{le-trans, le-of-eq, le-of-suc-le-suc, lt-of-lt-of-le, lt-of-le-of-lt, lt-of-not-le, lt-irrefl, zero-mul, zero-add, one-mul, mul-one, mul-comm, mul-assoc, mul-right-comm, mul-pos, mul-div-cancel, div-one, div-lt-iff-lt-mul, mul-lt-mul-of-pos-right}
-use native.Mathlib.Omega.{arith}
-use mathlib.Core.Bool.{Bool, true, false, not, _&&_, cond}
+use native.Mathlib.Nat.{le-of-eq, le-of-suc-le-suc, lt-of-lt-of-le, lt-of-not-le, lt-irrefl, zero-mul, zero-add, mul-one, mul-comm, mul-assoc, mul-right-comm, mul-pos, mul-div-cancel, div-one, div-lt-iff-lt-mul, mul-lt-mul-of-pos-right}
+use mathlib.Core.Bool.{Bool, true, false, _&&_}
 use lib.IntN.{ℤ, pos, negsuc}
-use lib.Dec.{T, leb, ltb, eqb, ltb→lt, leb→le, eqb→eq}
-use lib.Pow.{pow-pos, pow-mono, pow-lt, pow-add}
+use lib.Dec.{T, leb, ltb, eqb, ltb→lt, leb→le}
+use lib.Pow.{pow-pos, pow-lt, pow-add}
 use lib.Ieee.{Float, nan, inf, fin, Format, prec, emax, low, up, down, size, hid, fits, ofBits, toBits}
 use lib.Ieee.Bits.{ofBits-toBits}
 use lib.Ieee.Digits.{back}
@@ -52,8 +50,8 @@ pub record Shape (f : Format) (c : ℕ) : Type 0 where
   pub is : c ≡ digits * 2 ^ power
   pub under : c < 2 ^ (low f + suc (emax f))
 
-none : (f : Format) (e : ℤ) → zero * up e * 2 ^ low f / down e ≡ 0
-none f e = ap (λ (z : ℕ). z / down e) (ap (λ (z : ℕ). z * 2 ^ low f) (zero-mul (up e)) ∙ zero-mul (2 ^ low f) ∙ sym (zero-mul (down e))) ∙ mul-div-cancel 0 (down-pos e)
+pub count-zero : (f : Format) (e : ℤ) → zero * up e * 2 ^ low f / down e ≡ 0
+count-zero f e = ap (λ (z : ℕ). z / down e) (ap (λ (z : ℕ). z * 2 ^ low f) (zero-mul (up e)) ∙ zero-mul (2 ^ low f) ∙ sym (zero-mul (down e))) ∙ mul-div-cancel 0 (down-pos e)
 
 under-of : (f : Format) (m : ℕ) (e : ℤ) → m * up e < 2 ^ suc (emax f) * down e → m * up e * 2 ^ low f / down e < 2 ^ (low f + suc (emax f))
 under-of f m e h =
@@ -61,43 +59,41 @@ under-of f m e h =
     (lt-of-lt-of-le (mul-lt-mul-of-pos-right h (pow-pos (low f)))
     (le-of-eq (mul-right-comm (2 ^ suc (emax f)) (down e) (2 ^ low f) ∙ ap (λ (z : ℕ). z * down e) (mul-comm (2 ^ suc (emax f)) (2 ^ low f) ∙ sym (pow-add 2 (low f) (suc (emax f)))))))
 
-pub shape : (f : Format) (y : Float) → T (fits f y) → T (finite y) → Shape f (count f y)
+-- what `fits` asks of a number that is not 0
+parts : (f : Format) (s : Bool) (m : ℕ) (e : ℤ) → T (fits f (fin s (suc m) e)) → (suc m < 2 ^ prec f) × (down e ≤ 2 ^ low f) × (suc m * up e < 2 ^ suc (emax f) * down e)
 unfolding fits
+parts f s m e h =
+    let A = eqb (suc m % 2) 1 in
+    let B = ltb (suc m) (2 ^ prec f) in
+    let C = leb (down e) (2 ^ low f) in
+    let D = ltb (suc m * up e) (2 ^ suc (emax f) * down e) in (
+      ltb→lt (suc m) (2 ^ prec f) (and-r A B (and-l (A && B) C (and-l (A && B && C) D h))),
+      leb→le (down e) (2 ^ low f) (and-r (A && B) C (and-l (A && B && C) D h)),
+      ltb→lt (suc m * up e) (2 ^ suc (emax f) * down e) (and-r (A && B && C) D h),
+    )
+
+pub shape : (f : Format) (y : Float) → T (fits f y) → T (finite y) → Shape f (count f y)
 shape f nan h g = absurd g
 shape f (inf s) h g = absurd g
 shape f (fin s zero e) h g = record {
   digits = 0;
   power = 0;
   small = pow-pos (prec f);
-  is = none f e;
-  under = subst (λ (z : ℕ). z < 2 ^ (low f + suc (emax f))) (sym (none f e)) (pow-pos (low f + suc (emax f)));
+  is = count-zero f e;
+  under = subst (λ (z : ℕ). z < 2 ^ (low f + suc (emax f))) (sym (count-zero f e)) (pow-pos (low f + suc (emax f)));
 }
 shape f (fin s (suc m) e) h g =
-    let A = eqb (suc m % 2) 1 in
-    let B = ltb (suc m) (2 ^ prec f) in
-    let C = leb (down e) (2 ^ low f) in
-    let D = ltb (suc m * up e) (2 ^ suc (emax f) * down e) in
-    let pl = place (low f) e (leb→le (down e) (2 ^ low f) (and-r (A && B) C (and-l (A && B && C) D h))) in
-    record {
-      digits = suc m;
-      power = pl .0;
-      small = ltb→lt (suc m) (2 ^ prec f) (and-r A B (and-l (A && B) C (and-l (A && B && C) D h)));
-      is = pl .1 (suc m);
-      under = under-of f (suc m) e (ltb→lt (suc m * up e) (2 ^ suc (emax f) * down e) (and-r (A && B && C) D h));
-    }
+    let p = parts f s m e h in
+    let pl = place (low f) e (p .1) in
+    record { digits = suc m; power = pl .0; small = p .0; is = pl .1 (suc m); under = under-of f (suc m) e (p .2) }
 
 pub count-pos : (f : Format) (x : Float) → T (fits f x) → T (positive x) → 0 < count f x
-unfolding fits
 count-pos f nan h p = absurd p
 count-pos f (inf s) h p = absurd p
 count-pos f (fin true m e) h p = absurd p
 count-pos f (fin false zero e) h p = absurd p
 count-pos f (fin false (suc m) e) h p =
-    let A = eqb (suc m % 2) 1 in
-    let B = ltb (suc m) (2 ^ prec f) in
-    let C = leb (down e) (2 ^ low f) in
-    let D = ltb (suc m * up e) (2 ^ suc (emax f) * down e) in
-    let pl = place (low f) e (leb→le (down e) (2 ^ low f) (and-r (A && B) C (and-l (A && B && C) D h))) in
+    let pl = place (low f) e (parts f false m e h .1) in
     subst (λ (z : ℕ). 0 < z) (sym (pl .1 (suc m))) (mul-pos (ltb→lt 0 (suc m) p) (pow-pos (pl .0)))
 
 -- ---- the bit pattern of a positive value, from its count

@@ -1,11 +1,11 @@
 -- The nearest number to a root, on plain numbers. Assumes nothing.
-use mathlib.Core.Path.{_≡_, refl, sym, ap, _∙_, subst}
+use mathlib.Core.Path.{_≡_, sym, ap, _∙_, subst}
 use mathlib.Core.Logic.{_⊎_, inl, inr}
-use Prim.Native.Nat.{ℕ, zero, suc, _+_, _-_, _*_, _/_, _%_, _^_, _≤_, _<_}
-use native.Mathlib.Nat.{le-refl, le-trans, le-of-eq, le-of-lt, le-antisymm, le-of-suc-le-suc, lt-of-lt-of-le, lt-of-le-of-lt, lt-of-not-le, lt-irrefl, eq-or-lt-of-le, mul-comm, mul-assoc, mul-one, one-mul, mul-le-mul, mul-le-mul-left, mul-le-mul-right, mul-lt-mul-of-pos-right, mul-pos, mul-mul-mul-comm, pow-succ', le-div-iff-mul-le, div-lt-iff-lt-mul, eq-of-mul-eq-mul-right, le-of-mul-le-mul-right, lt-of-mul-lt-mul-right, le-mul-of-pos-right}
+use Prim.Native.Nat.{ℕ, suc, _+_, _-_, _*_, _/_, _^_, _≤_, _<_}
+use native.Mathlib.Nat.{le-trans, le-of-eq, le-of-lt, le-antisymm, lt-of-lt-of-le, lt-of-le-of-lt, lt-irrefl, eq-or-lt-of-le, mul-comm, mul-assoc, mul-le-mul-right, mul-lt-mul-of-pos-right, mul-pos, mul-mul-mul-comm, pow-succ', le-div-iff-mul-le, div-lt-iff-lt-mul, eq-of-mul-eq-mul-right, lt-of-mul-lt-mul-right, le-mul-of-pos-right}
 use native.Mathlib.Omega.{arith}
-use mathlib.Core.Bool.{Bool, true, false, not, cond}
-use lib.Dec.{T, leb, ltb, ltb→lt, nltb→le}
+use mathlib.Core.Bool.{Bool, true, false, not}
+use lib.Dec.{T, ltb, ltb→lt, nltb→le}
 use lib.Pow.{pow-pos, pow-mono, pow-add}
 use Rattle.method.specs.Root.{wholeRoot}
 use Rattle.method.specs.Root.Whole.{IsRoot, sq-le, sq-lt, sq-lt-back, whole-is, four-pow}
@@ -16,6 +16,9 @@ less-or-not a b = go (ltb a b) (ltb→lt a b) (nltb→le a b)
     go : (t : Bool) → (T t → a < b) → (T (not t) → b ≤ a) → (a < b) ⊎ (b ≤ a)
     go true h k = inl (h tt)
     go false h k = inr (k tt)
+
+pub neither : (a b : ℕ) → (a < b → ⊥) → (b < a → ⊥) → a ≡ b
+neither a b h k = elim (less-or-not a b) [ inl l ↦ absurd (h l) | inr g ↦ elim (less-or-not b a) [ inl l ↦ absurd (k l) | inr l ↦ le-antisymm l g ] ]
 
 -- ---- no tie: 4 * n is the square of an odd number times a power of two only if n has more digits than half of that square has
 
@@ -59,9 +62,21 @@ pub record Rounded (p k n q : ℕ) : Type 0 where
   pub below : (z : ℕ) → z < 2 * q → z * 2 ^ k * (z * 2 ^ k) < 4 * n
   pub above : 4 * n < (2 * q + 1) * 2 ^ k * ((2 * q + 1) * 2 ^ k)
 
+pub double-hid : (p : ℕ) → 2 ≤ p → 2 ^ p ≡ 2 * 2 ^ (p - 1)
+double-hid p h = ap (λ (z : ℕ). 2 ^ z) (sym (go p h)) ∙ pow-succ' 2 (p - 1)
+  where
+    go : (p : ℕ) → 2 ≤ p → suc (p - 1) ≡ p
+    go p h = omega arith
+
+four-lt : (a b : ℕ) → a < b → 4 * a < 4 * b
+four-lt a b h = omega arith
+
 -- squares of multiples of 2 ^ k
 squares : (w d : ℕ) → w * d * (w * d) ≡ w * w * (d * d)
 squares w d = mul-mul-mul-comm w d w d
+
+double-square : (x d : ℕ) → 2 * x * d * (2 * x * d) ≡ 4 * (x * d * (x * d))
+double-square x d = ap (λ (z : ℕ). z * z) (mul-assoc 2 x d) ∙ mul-mul-mul-comm 2 (x * d) 2 (x * d)
 
 double-pow : (k : ℕ) → 2 ^ k * 2 ^ k ≡ 2 ^ (k + k)
 double-pow k = sym (pow-add 2 k k)
@@ -70,24 +85,12 @@ module _ (p k n m a : ℕ) (two : 2 ≤ p) (lo : 2 ^ (p - 1) * 2 ^ k * (2 ^ (p -
   abbrev w : ℕ
   w = wholeRoot (suc p) (4 * n / 4 ^ k)
 
-  D : ℕ
-  D = 2 ^ k
-
-  P1 : 2 ^ p ≡ 2 * 2 ^ (p - 1)
-  P1 = ap (λ (z : ℕ). 2 ^ z) (sym (go p two)) ∙ pow-succ' 2 (p - 1)
-    where
-      go : (p : ℕ) → 2 ≤ p → suc (p - 1) ≡ p
-      go p h = omega arith
-
   four-pos : 0 < 4 ^ k
   four-pos = subst (λ (z : ℕ). 0 < z) (sym (four-pow k)) (mul-pos (pow-pos k) (pow-pos k))
 
   w-is : IsRoot (4 * n / 4 ^ k) w
-  w-is = whole-is (suc p) (4 * n / 4 ^ k) (div-lt-iff-lt-mul four-pos .1 (subst (λ (z : ℕ). 4 * n < z) reach (go n (2 ^ p * 2 ^ k * (2 ^ p * 2 ^ k)) hi)))
+  w-is = whole-is (suc p) (4 * n / 4 ^ k) (div-lt-iff-lt-mul four-pos .1 (subst (λ (z : ℕ). 4 * n < z) reach (four-lt n (2 ^ p * 2 ^ k * (2 ^ p * 2 ^ k)) hi)))
     where
-      go : (a b : ℕ) → a < b → 4 * a < 4 * b
-      go a b h = omega arith
-
       reach : 4 * (2 ^ p * 2 ^ k * (2 ^ p * 2 ^ k)) ≡ 4 ^ suc p * 4 ^ k
       reach = ap (λ (z : ℕ). 4 * z) (squares (2 ^ p) (2 ^ k)) ∙ sym (mul-assoc 4 (2 ^ p * 2 ^ p) (2 ^ k * 2 ^ k)) ∙ ap (λ (z : ℕ). 4 * z * (2 ^ k * 2 ^ k)) (sym (four-pow p)) ∙ ap (λ (z : ℕ). z * (2 ^ k * 2 ^ k)) (sym (pow-succ' 4 p)) ∙ ap (λ (z : ℕ). 4 ^ suc p * z) (sym (four-pow k))
 
@@ -107,26 +110,17 @@ module _ (p k n m a : ℕ) (two : 2 ≤ p) (lo : 2 ^ (p - 1) * 2 ^ k * (2 ^ (p -
       four : (a b : ℕ) → b ≤ a → 4 * b ≤ 4 * a
       four a b h = omega arith
 
-      mult : (x d : ℕ) → 2 * x * d * (2 * x * d) ≡ 4 * (x * d * (x * d))
-      mult x d = ap (λ (z : ℕ). z * z) (mul-assoc 2 x d) ∙ mul-mul-mul-comm 2 (x * d) 2 (x * d)
-
       e : 2 ^ p * 2 ^ k * (2 ^ p * 2 ^ k) ≡ 4 * (2 ^ (p - 1) * 2 ^ k * (2 ^ (p - 1) * 2 ^ k))
-      e = ap (λ (z : ℕ). z * 2 ^ k * (z * 2 ^ k)) P1 ∙ mult (2 ^ (p - 1)) (2 ^ k)
+      e = ap (λ (z : ℕ). z * 2 ^ k * (z * 2 ^ k)) (double-hid p two) ∙ double-square (2 ^ (p - 1)) (2 ^ k)
 
   w-most : w < 2 * 2 ^ p
-  w-most = lt-of-mul-lt-mul-right (2 ^ k) (sq-lt-back (w * 2 ^ k) (2 * 2 ^ p * 2 ^ k) (lt-of-le-of-lt w-below (lt-of-lt-of-le (go n (2 ^ p * 2 ^ k * (2 ^ p * 2 ^ k)) hi) (le-of-eq (sym (mult (2 ^ p) (2 ^ k)))))))
-    where
-      go : (a b : ℕ) → a < b → 4 * a < 4 * b
-      go a b h = omega arith
-
-      mult : (x d : ℕ) → 2 * x * d * (2 * x * d) ≡ 4 * (x * d * (x * d))
-      mult x d = ap (λ (z : ℕ). z * z) (mul-assoc 2 x d) ∙ mul-mul-mul-comm 2 (x * d) 2 (x * d)
+  w-most = lt-of-mul-lt-mul-right (2 ^ k) (sq-lt-back (w * 2 ^ k) (2 * 2 ^ p * 2 ^ k) (lt-of-le-of-lt w-below (lt-of-lt-of-le (four-lt n (2 ^ p * 2 ^ k * (2 ^ p * 2 ^ k)) hi) (le-of-eq (sym (double-square (2 ^ p) (2 ^ k)))))))
 
   abbrev q : ℕ
   q = (w + 1) / 2
 
   q-least : 2 ^ (p - 1) ≤ q
-  q-least = go (2 ^ p) (2 ^ (p - 1)) w P1 w-least
+  q-least = go (2 ^ p) (2 ^ (p - 1)) w (double-hid p two) w-least
     where
       go : (x y w : ℕ) → x ≡ 2 * y → x ≤ w → y ≤ (w + 1) / 2
       go x y w e h = omega arith
@@ -151,7 +145,7 @@ module _ (p k n m a : ℕ) (two : 2 ≤ p) (lo : 2 ^ (p - 1) * 2 ^ k * (2 ^ (p -
       go w h = omega arith
 
   big : 2 ^ p ≤ (2 * t + 1) * (2 * t + 1)
-  big = go (2 ^ p) (2 ^ (p - 1)) q P1 q-least (pow-mono {i = 1} {j = p - 1} (one-less p two))
+  big = go (2 ^ p) (2 ^ (p - 1)) q (double-hid p two) q-least (pow-mono {i = 1} {j = p - 1} (one-less p two))
     where
       one-less : (p : ℕ) → 2 ≤ p → 1 ≤ p - 1
       one-less p h = omega arith

@@ -1,11 +1,10 @@
 -- What is proved of `squareRoot`, in either format: it is nearest, nothing else is, and no tie occurs. Assumes nothing.
 use mathlib.Core.Path.{_≡_, refl, sym, ap, _∙_, subst}
 use mathlib.Core.Logic.{_⊎_, inl, inr}
-use Prim.Native.Nat.{ℕ, zero, suc, _+_, _-_, _*_, _/_, _%_, _^_, _≤_, _<_}
-use native.Mathlib.Nat.{le-trans, le-of-eq, le-of-lt, lt-of-lt-of-le, lt-of-le-of-lt, lt-irrefl, lt-trans, le-antisymm, one-mul, mul-assoc, mul-pos, mul-le-mul-right, mul-lt-mul-of-pos-right, eq-or-lt-of-le}
+use Prim.Native.Nat.{ℕ, zero, suc, _+_, _-_, _*_, _/_, _^_, _≤_, _<_}
+use native.Mathlib.Nat.{le-refl, add-le-add, le-trans, le-of-eq, lt-of-lt-of-le, lt-of-le-of-lt, lt-irrefl, lt-trans, one-mul, mul-assoc, mul-pos, mul-le-mul-right, mul-lt-mul-of-pos-right}
 use native.Mathlib.Omega.{arith}
-use mathlib.Core.Bool.{Bool, true, false}
-use lib.IntN.{ℤ}
+use mathlib.Core.Bool.{true, false}
 use lib.Dec.{T, lit≤}
 use lib.Pow.{pow-pos, pow-mono, pow-lt, pow-add}
 use lib.Ieee.{Float, nan, inf, fin, Format, binary32, binary64, prec, emax, low, size, odd, fits}
@@ -14,18 +13,10 @@ use lib.Ieee.Fits.{two, odd-fits}
 use lib.Ieee.Exact.{HasValue, odd-sign}
 use lib.Ieee.Scale.{finite}
 use lib.Ieee.Positive.{positive, positive-finite, positive-of-value}
-use Rattle.method.specs.Root.{count, square, wholeRoot, rooted, squareRoot, Nearest}
+use Rattle.method.specs.Root.{count, square, dropped, kept, rooted, squareRoot, Nearest}
 use Rattle.method.specs.Root.Whole.{sq-le}
-use Rattle.method.specs.Root.Grid.{Rounded, rounded-is, near-lower, near-upper, less-or-not}
+use Rattle.method.specs.Root.Grid.{Rounded, rounded-is, near-lower, near-upper, less-or-not, neither}
 use Rattle.method.specs.Root.Counts.{count-is, Shape, shape, count-pos, count-unique}
-
--- ---- how many digits a root drops, and what is kept of it
-
-abbrev pub dropped : Format → ℕ → ℕ
-dropped f n = (size n + 1) / 2 - prec f
-
-abbrev pub kept : Format → ℕ → ℕ
-kept f n = (wholeRoot (suc (prec f)) (4 * n / 4 ^ dropped f n) + 1) / 2
 
 rooted-is : (f : Format) (n : ℕ) → rooted f n ≡ odd (suc (prec f)) false (kept f n) (dropped f n) (low f)
 unfolding rooted
@@ -62,19 +53,19 @@ module _ (f : Format) (n m a : ℕ) (least : 2 ^ low f ≤ n) (small : m < 2 ^ p
       go : (z p : ℕ) → z ≤ p + ((z + 1) / 2 - p) + (p + ((z + 1) / 2 - p))
       go z p = omega arith
 
-  pub rounding : Rounded (prec f) (dropped f n) n (kept f n)
+  rounding : Rounded (prec f) (dropped f n) n (kept f n)
   rounding = rounded-is (prec f) (dropped f n) n m a (two f) lo hi small is
 
-  pub value : HasValue (rooted f n) false (kept f n * 2 ^ dropped f n) (2 ^ low f)
+  value : HasValue (rooted f n) false (kept f n * 2 ^ dropped f n) (2 ^ low f)
   value = subst (λ (x : Float). HasValue x false (kept f n * 2 ^ dropped f n) (2 ^ low f)) (sym (rooted-is f n)) (odd-sign (suc (prec f)) false (kept f n) (dropped f n) (low f))
 
-  pub rooted-count : count f (rooted f n) ≡ kept f n * 2 ^ dropped f n
+  rooted-count : count f (rooted f n) ≡ kept f n * 2 ^ dropped f n
   rooted-count = count-is f (rooted f n) false (kept f n * 2 ^ dropped f n) value
 
-  pub rooted-positive : T (positive (rooted f n))
+  rooted-positive : T (positive (rooted f n))
   rooted-positive = positive-of-value (rooted f n) (kept f n * 2 ^ dropped f n) (2 ^ low f) value (mul-pos (lt-of-lt-of-le (pow-pos (prec f - 1)) (rounding .least)) (pow-pos (dropped f n)))
 
-  pub rooted-fits : n < 2 ^ (low f + low f + suc (emax f)) → T (fits f (rooted f n))
+  rooted-fits : n < 2 ^ (low f + low f + suc (emax f)) → T (fits f (rooted f n))
   rooted-fits top =
       subst (λ (x : Float). T (fits f x)) (sym (rooted-is f n))
       (odd-fits f (suc (prec f)) false (kept f n) (dropped f n) (lt-of-le-of-lt (rounding .most) (pow-lt (up (prec f)))) (rounding .most)
@@ -102,7 +93,7 @@ module _ (f : Format) (x : Float) (h : T (fits f x)) (p : T (positive x)) where
   sh : Shape f (count f x)
   sh = shape f x h (positive-finite x p)
 
-  pub square-least : 2 ^ low f ≤ square f x
+  square-least : 2 ^ low f ≤ square f x
   square-least = le-trans (le-of-eq (sym (one-mul (2 ^ low f)))) (mul-le-mul-right (2 ^ low f) (count-pos f x h p))
 
   square-is : square f x ≡ sh .digits * 2 ^ (sh .power + low f)
@@ -160,12 +151,7 @@ not-below f x r s a b l =
 
 -- nothing else is nearest
 pub nearest-unique : (f : Format) (x r s : Float) → Nearest f x r → Nearest f x s → r ≡ s
-nearest-unique f x r s a b = count-unique f r s (a .held) (b .held) (a .above-zero) (b .above-zero) (same (less-or-not (count f r) (count f s)) (less-or-not (count f s) (count f r)))
-  where
-    same : (count f r < count f s) ⊎ (count f s ≤ count f r) → (count f s < count f r) ⊎ (count f r ≤ count f s) → count f r ≡ count f s
-    same (inl l) d = absurd (not-below f x r s a b l)
-    same (inr g) (inl l) = absurd (not-below f x s r b a l)
-    same (inr g) (inr h) = le-antisymm h g
+nearest-unique f x r s a b = count-unique f r s (a .held) (b .held) (a .above-zero) (b .above-zero) (neither (count f r) (count f s) (not-below f x r s a b) (not-below f x s r b a))
 
 -- no tie: for two values of the format with none between them, the root is not at their midpoint
 pub squareRoot-no-tie : (f : Format) (x y z : Float) → T (fits f x) → T (positive x) → T (fits f y) → T (finite y) → T (fits f z) → T (finite z) → count f y < count f z
@@ -182,13 +168,7 @@ squareRoot-no-tie f x y z h p Fy fy Fz fz l adjacent e = go (adjacent r (a .held
     go : (count f r ≤ count f y) ⊎ (count f z ≤ count f r) → ⊥
     go (inl g) =
         lt-irrefl (4 * square f x)
-        (lt-of-lt-of-le (a .upper z Fz fz (lt-of-le-of-lt g l)) (le-trans (sq-le (count f r + count f z) (count f y + count f z) (add-le-right (count f r) (count f y) (count f z) g)) (le-of-eq e)))
-      where
-        add-le-right : (r y z : ℕ) → r ≤ y → r + z ≤ y + z
-        add-le-right r y z k = omega arith
+        (lt-of-lt-of-le (a .upper z Fz fz (lt-of-le-of-lt g l)) (le-trans (sq-le (count f r + count f z) (count f y + count f z) (add-le-add g (le-refl (count f z)))) (le-of-eq e)))
     go (inr g) =
         lt-irrefl (4 * square f x)
-        (lt-of-le-of-lt (le-trans (le-of-eq (sym e)) (sq-le (count f y + count f z) (count f y + count f r) (add-le-left (count f y) (count f z) (count f r) g))) (a .lower y Fy fy (lt-of-lt-of-le l g)))
-      where
-        add-le-left : (y z r : ℕ) → z ≤ r → y + z ≤ y + r
-        add-le-left y z r k = omega arith
+        (lt-of-le-of-lt (le-trans (le-of-eq (sym e)) (sq-le (count f y + count f z) (count f y + count f r) (add-le-add (le-refl (count f y)) g))) (a .lower y Fy fy (lt-of-lt-of-le l g)))

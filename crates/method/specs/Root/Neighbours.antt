@@ -1,27 +1,24 @@
--- The midpoints of the root with its two neighbours enclose the exact root. Assumes nothing.
+-- The positive values next to r are those of the patterns next to r's: r lies between them, and no other value of the format does. Assumes nothing.
 use mathlib.Core.Path.{_≡_, refl, sym, ap, _∙_, subst}
 use mathlib.Core.Logic.{_⊎_, inl, inr}
 use Prim.Native.Nat.{ℕ, zero, suc, _+_, _-_, _*_, _/_, _%_, _^_, _≤_, _<_}
-use native.Mathlib.Nat.{le-trans, le-of-eq, lt-of-lt-of-le, lt-of-le-of-lt, eq-or-lt-of-le, mod-lt, div-add-mod', mul-le-mul-right, mul-lt-mul-of-pos-right, mul-one, mul-assoc, mul-comm, pow-succ', mul-pos, le-add-left, le-refl, le-dest, le-antisymm, lt-irrefl, lt-trans, add-zero}
+use native.Mathlib.Nat.{le-trans, le-of-eq, le-of-lt, lt-of-lt-of-le, eq-or-lt-of-le, mod-lt, div-add-mod', mul-le-mul-right, mul-lt-mul-of-pos-right, mul-assoc, pow-succ', le-dest, lt-irrefl, add-zero, zero-lt-suc, le-antisymm}
 use native.Mathlib.Omega.{arith}
 use mathlib.Core.Bool.{Bool, false}
-use lib.Dec.{T}
+use lib.Dec.{T, lt→ltb, lit≤}
 use lib.Arith.{digits-div, digits-mod}
-use lib.Pow.{pow-pos, pow-mono}
+use lib.Pow.{pow-pos}
 use lib.Ieee.{Float, nan, inf, fin, Format, binary32, binary64, prec, emax, low, hid, ones, size, fits, ofBits, toBits}
-use lib.Ieee.Bits.{ofBits-toBits, ofBits-fits}
+use lib.Ieee.Bits.{ofBits-toBits}
 use lib.Ieee.Digits.{size-le}
 use lib.Ieee.Fits.{two, kept-lt}
 use lib.Ieee.Exact.{HasValue}
 use lib.Ieee.Scale.{finite}
 use lib.Ieee.Positive.{positive, positive-finite}
-use Rattle.method.specs.Root.{count, square, rooted, squareRoot, Nearest, before, after, Enclosed}
+use Rattle.method.specs.Root.{count, before, after}
 use Rattle.method.specs.Root.Patterns.{fieldCount, bits-val, bits-count}
-use Rattle.method.specs.Root.Laws.{dropped, kept, squareRoot-of, squareRoot-nearest, square-rounding, square-top, square-fits}
-use Rattle.method.specs.Root.Written.{squareRoot-pattern, twice-hid}
-use Rattle.method.specs.Root.Whole.{sq-le}
-use Rattle.method.specs.Root.Grid.{less-or-not}
-use Rattle.method.specs.Root.Counts.{Shape, shape, pattern, toBits-count, count-unique}
+use Rattle.method.specs.Root.Grid.{less-or-not, double-hid}
+use Rattle.method.specs.Root.Counts.{shape, toBits-count, count-pos, count-zero}
 
 -- ---- the next pattern stands for a larger number
 value-finite : (x : Float) (s : Bool) (a c : ℕ) → HasValue x s a c → T (finite x)
@@ -55,12 +52,6 @@ next-field f (suc x) t e = lt-of-lt-of-le (mul-lt-mul-of-pos-right (go t (hid f)
 fields-step : (f : Format) (b : ℕ) → fieldCount f (b / hid f) (b % hid f) < fieldCount f ((b + 1) / hid f) ((b + 1) % hid f)
 fields-step f b = go (eq-or-lt-of-le (mod-lt b (pow-pos (prec f - 1))))
   where
-    x : ℕ
-    x = b / hid f
-
-    t : ℕ
-    t = b % hid f
-
     step : (a b t : ℕ) → a + t ≡ b → b + 1 ≡ a + suc t
     step a b t e = omega arith
 
@@ -83,7 +74,7 @@ fields-step f b = go (eq-or-lt-of-le (mod-lt b (pow-pos (prec f - 1))))
         (subst (λ (z : ℕ). fieldCount f (b / hid f) (b % hid f) < fieldCount f (b / hid f) z) (sym (digits-mod (b / hid f) l))
         (same-field f (b / hid f) (b % hid f))))
 
-pub count-step : (f : Format) (b : ℕ) → b + 1 < ones f * hid f → count f (ofBits f b) < count f (ofBits f (b + 1))
+count-step : (f : Format) (b : ℕ) → b + 1 < ones f * hid f → count f (ofBits f b) < count f (ofBits f (b + 1))
 count-step f b h =
     subst (λ (z : ℕ). z < count f (ofBits f (b + 1))) (sym (bits-count f b (less b (ones f * hid f) h)))
     (subst (λ (z : ℕ). fieldCount f (b / hid f) (b % hid f) < z) (sym (bits-count f (b + 1) h)) (fields-step f b))
@@ -91,78 +82,12 @@ count-step f b h =
     less : (b c : ℕ) → b + 1 < c → b < c
     less b c k = omega arith
 
--- ---- the root's pattern is neither the first nor the last
-module _ (f : Format) (x : Float) (h : T (fits f x)) (p : T (positive x)) where
-  r : Float
-  r = rooted f (square f x)
-
-  b-lo : 0 < toBits f (rooted f (square f x))
-  b-lo = subst (λ (z : ℕ). 0 < z) (sym (squareRoot-pattern f x h p)) (lt-of-lt-of-le (lt-of-lt-of-le (pow-pos (prec f - 1)) (square-rounding f x h p .least)) (le-add-left (kept f (square f x)) (dropped f (square f x) * hid f)))
-
-  few : (f : Format) → prec f + emax f ≡ low f + 2
-  few binary32 = refl
-  few binary64 = refl
-
-  fields-lt : dropped f (square f x) + 3 ≤ ones f
-  fields-lt = go (size (square f x)) (prec f) (low f) (emax f) (few f) (size-le (square f x) (low f + low f + suc (emax f)) (square-top f x h p)) (some f)
-    where
-      some : (f : Format) → 2 ≤ emax f
-      some binary32 = lib.Dec.lit≤ tt
-      some binary64 = lib.Dec.lit≤ tt
-
-      go : (z p l e : ℕ) → p + e ≡ l + 2 → z ≤ l + l + suc e → 2 ≤ e → (z + 1) / 2 - p + 3 ≤ 2 * e + 1
-      go z p l e a b s = omega arith
-
-  b-hi : toBits f (rooted f (square f x)) + 1 < ones f * hid f
-  b-hi = subst (λ (z : ℕ). z + 1 < ones f * hid f) (sym (squareRoot-pattern f x h p)) (lt-of-lt-of-le (go (dropped f (square f x)) (hid f) (kept f (square f x)) (2 ^ prec f) (twice-hid (prec f) (two f)) (square-rounding f x h p .most) big) (mul-le-mul-right (hid f) fields-lt))
-    where
-      big : 2 ≤ hid f
-      big = pow-mono {i = 1} {j = prec f - 1} (one-less (prec f) (two f))
-        where
-          one-less : (p : ℕ) → 2 ≤ p → 1 ≤ p - 1
-          one-less p k = omega arith
-
-      go : (k h q c : ℕ) → c ≡ 2 * h → q ≤ c → 2 ≤ h → k * h + q + 1 < (k + 3) * h
-      go k h q c e g s = omega arith
-
-  rooted-enclosed : Nearest f x (rooted f (square f x)) → Enclosed f x (rooted f (square f x))
-  rooted-enclosed n =
-      let v = rooted f (square f x) in
-      let b = toBits f v in
-      let back : ofBits f b ≡ v = ofBits-toBits f v (square-fits f x h p) in
-      let low-is : b - 1 + 1 ≡ b = one-back b b-lo in
-      let low-lt : b - 1 < ones f * hid f = under b (ones f * hid f) b-hi in
-      record {
-        lower = n .lower (before f v) (ofBits-fits f (b - 1)) (bits-finite f (b - 1) low-lt)
-            (subst (λ (y : Float). count f (ofBits f (b - 1)) < count f y) (ap (λ (z : ℕ). ofBits f z) low-is ∙ back)
-            (count-step f (b - 1) (subst (λ (z : ℕ). z < ones f * hid f) (sym low-is) (under-one b (ones f * hid f) b-hi))));
-        upper = n .upper (after f v) (ofBits-fits f (b + 1)) (bits-finite f (b + 1) b-hi)
-            (subst (λ (y : Float). count f y < count f (ofBits f (b + 1))) back (count-step f b b-hi));
-      }
-    where
-      one-back : (b : ℕ) → 0 < b → b - 1 + 1 ≡ b
-      one-back b k = omega arith
-
-      under : (b c : ℕ) → b + 1 < c → b - 1 < c
-      under b c k = omega arith
-
-      under-one : (b c : ℕ) → b + 1 < c → b < c
-      under-one b c k = omega arith
-
--- the root's midpoints with its two neighbours enclose the exact root
-pub squareRoot-enclosed : (f : Format) (x : Float) → T (fits f x) → T (positive x) → Enclosed f x (squareRoot f x)
-squareRoot-enclosed f x h p =
-    subst (λ (r : Float). Enclosed f x r) (sym (squareRoot-of f x p))
-    (rooted-enclosed f x h p (subst (λ (r : Float). Nearest f x r) (squareRoot-of f x p) (squareRoot-nearest f x h p)))
-
--- ---- and no other value's do
-
 -- a larger pattern stands for a larger number
 count-more : (f : Format) (d b : ℕ) → b + d < ones f * hid f → count f (ofBits f b) ≤ count f (ofBits f (b + d))
 count-more f zero b h = le-of-eq (ap (λ (z : ℕ). count f (ofBits f z)) (sym (add-zero b)))
 count-more f (suc d) b h =
     le-trans (count-more f d b (less b d (ones f * hid f) h))
-    (le-trans (weaken (count f (ofBits f (b + d))) (count f (ofBits f (b + d + 1))) (count-step f (b + d) (subst (λ (z : ℕ). z < ones f * hid f) (sym (one b d)) h))) (le-of-eq (ap (λ (z : ℕ). count f (ofBits f z)) (one b d))))
+    (le-trans (le-of-lt (count-step f (b + d) (subst (λ (z : ℕ). z < ones f * hid f) (sym (one b d)) h))) (le-of-eq (ap (λ (z : ℕ). count f (ofBits f z)) (one b d))))
   where
     less : (b d c : ℕ) → b + suc d < c → b + d < c
     less b d c k = omega arith
@@ -170,13 +95,19 @@ count-more f (suc d) b h =
     one : (b d : ℕ) → b + d + 1 ≡ b + suc d
     one b d = omega arith
 
-    weaken : (a b : ℕ) → a < b → a ≤ b
-    weaken a b k = omega arith
-
 count-mono : (f : Format) (b c : ℕ) → b ≤ c → c < ones f * hid f → count f (ofBits f b) ≤ count f (ofBits f c)
 count-mono f b c h k =
     let d = le-dest h in
     subst (λ (z : ℕ). count f (ofBits f b) ≤ count f (ofBits f z)) (d .1) (count-more f (d .0) b (subst (λ (z : ℕ). z < ones f * hid f) (sym (d .1)) k))
+
+-- how a format's precision and its exponents go together
+pub few : (f : Format) → prec f + emax f ≡ low f + 2
+few binary32 = refl
+few binary64 = refl
+
+pub some : (f : Format) → 2 ≤ emax f
+some binary32 = lit≤ tt
+some binary64 = lit≤ tt
 
 -- the pattern of a positive value is below the infinity's
 pattern-lt : (f : Format) (v : Float) → T (fits f v) → T (positive v) → toBits f v < ones f * hid f
@@ -184,25 +115,30 @@ pattern-lt f v h p =
     let c = count f v in
     let sh = shape f v h (positive-finite v p) in
     subst (λ (z : ℕ). z < ones f * hid f) (sym (toBits-count f v p))
-    (lt-of-lt-of-le (go (size c - prec f) (hid f) (c / 2 ^ (size c - prec f)) (2 ^ prec f) (twice-hid (prec f) (two f)) (kept-lt (prec f) c))
-    (mul-le-mul-right (hid f) (fields (size c) (prec f) (low f) (emax f) (few-of f) (some f) (size-le c (low f + suc (emax f)) (sh .under)))))
+    (lt-of-lt-of-le (go (size c - prec f) (hid f) (c / 2 ^ (size c - prec f)) (2 ^ prec f) (double-hid (prec f) (two f)) (kept-lt (prec f) c))
+    (mul-le-mul-right (hid f) (fields (size c) (prec f) (low f) (emax f) (few f) (some f) (size-le c (low f + suc (emax f)) (sh .under)))))
   where
     go : (k h q c : ℕ) → c ≡ 2 * h → q < c → k * h + q < (k + 2) * h
     go k h q c e g = omega arith
 
-    few-of : (f : Format) → prec f + emax f ≡ low f + 2
-    few-of binary32 = refl
-    few-of binary64 = refl
-
-    some : (f : Format) → 2 ≤ emax f
-    some binary32 = lib.Dec.lit≤ tt
-    some binary64 = lib.Dec.lit≤ tt
-
     fields : (z p l e : ℕ) → p + e ≡ l + 2 → 2 ≤ e → z ≤ l + suc e → z - p + 2 ≤ 2 * e + 1
     fields z p l e a b c = omega arith
 
+-- and above zero's
+no-count : (f : Format) → count f (ofBits f 0) ≡ 0
+unfolding ofBits
+no-count binary32 = refl
+no-count binary64 = refl
+
+pattern-pos : (f : Format) (v : Float) → T (fits f v) → T (positive v) → 0 < toBits f v
+pattern-pos f v h p = go (toBits f v) refl
+  where
+    go : (b : ℕ) → toBits f v ≡ b → 0 < b
+    go zero e = absurd (lt-irrefl 0 (subst (λ (z : ℕ). 0 < z) (ap (λ (y : Float). count f y) (sym (ofBits-toBits f v h) ∙ ap (λ (z : ℕ). ofBits f z) e) ∙ no-count f) (count-pos f v h p)))
+    go (suc b) e = zero-lt-suc b
+
 -- between two values the patterns are in the counts' order
-pattern-order : (f : Format) (v w : Float) → T (fits f v) → T (positive v) → T (fits f w) → T (positive w) → count f v < count f w → toBits f v < toBits f w
+pub pattern-order : (f : Format) (v w : Float) → T (fits f v) → T (positive v) → T (fits f w) → T (positive w) → count f v < count f w → toBits f v < toBits f w
 pattern-order f v w a p b q l = go (less-or-not (toBits f v) (toBits f w))
   where
     go : (toBits f v < toBits f w) ⊎ (toBits f w ≤ toBits f v) → toBits f v < toBits f w
@@ -211,26 +147,32 @@ pattern-order f v w a p b q l = go (less-or-not (toBits f v) (toBits f w))
         absurd (lt-irrefl (count f v) (lt-of-lt-of-le l
         (subst (λ (y : Float). count f y ≤ count f v) (ofBits-toBits f w b) (subst (λ (y : Float). count f (ofBits f (toBits f w)) ≤ count f y) (ofBits-toBits f v a) (count-mono f (toBits f w) (toBits f v) k (pattern-lt f v a p))))))
 
--- v's midpoints with its neighbours enclose the root of x, and w is nearest: then neither is below the other
-no-higher : (f : Format) (x v w : Float) → T (fits f v) → T (positive v) → Enclosed f x v → Nearest f x w → count f v < count f w → ⊥
-no-higher f x v w a p e n l =
-    let o = pattern-order f v w a p (n .held) (n .above-zero) l in
-    let up : count f (after f v) ≤ count f w = subst (λ (y : Float). count f (after f v) ≤ count f y) (ofBits-toBits f w (n .held)) (count-mono f (toBits f v + 1) (toBits f w) (next (toBits f v) (toBits f w) o) (pattern-lt f w (n .held) (n .above-zero))) in
-    lt-irrefl (4 * square f x)
-    (lt-trans (lt-of-lt-of-le (e .upper) (sq-le (count f v + count f (after f v)) (count f v + count f w) (add-le (count f v) (count f (after f v)) (count f w) up))) (n .lower v a (positive-finite v p) l))
+-- ---- r and its neighbours
+pub before-less : (f : Format) (r : Float) → T (fits f r) → T (positive r) → count f (before f r) < count f r
+before-less f r h p =
+    let b = toBits f r in
+    let e : b - 1 + 1 ≡ b = one-back b (pattern-pos f r h p) in
+    subst (λ (y : Float). count f (before f r) < count f y) (ap (λ (z : ℕ). ofBits f z) e ∙ ofBits-toBits f r h)
+    (count-step f (b - 1) (subst (λ (z : ℕ). z < ones f * hid f) (sym e) (pattern-lt f r h p)))
+  where
+    one-back : (b : ℕ) → 0 < b → b - 1 + 1 ≡ b
+    one-back b k = omega arith
+
+-- the largest value has an infinity after it; each other one a value
+pub after-more : (f : Format) (r : Float) → T (fits f r) → toBits f r + 1 < ones f * hid f → count f r < count f (after f r)
+after-more f r h l = subst (λ (y : Float). count f y < count f (after f r)) (ofBits-toBits f r h) (count-step f (toBits f r) l)
+
+-- no value is between them and r
+pub after-least : (f : Format) (v w : Float) → T (fits f w) → T (positive w) → toBits f v < toBits f w → count f (after f v) ≤ count f w
+after-least f v w h p l =
+    subst (λ (y : Float). count f (after f v) ≤ count f y) (ofBits-toBits f w h) (count-mono f (toBits f v + 1) (toBits f w) (next (toBits f v) (toBits f w) l) (pattern-lt f w h p))
   where
     next : (a b : ℕ) → a < b → a + 1 ≤ b
     next a b k = omega arith
 
-    add-le : (a b c : ℕ) → b ≤ c → a + b ≤ a + c
-    add-le a b c k = omega arith
-
-no-lower : (f : Format) (x v w : Float) → T (fits f v) → T (positive v) → Enclosed f x v → Nearest f x w → count f w < count f v → ⊥
-no-lower f x v w a p e n l =
-    let o = pattern-order f w v (n .held) (n .above-zero) a p l in
-    let down : count f w ≤ count f (before f v) = subst (λ (y : Float). count f y ≤ count f (before f v)) (ofBits-toBits f w (n .held)) (count-mono f (toBits f w) (toBits f v - 1) (next (toBits f w) (toBits f v) o) (less (toBits f v) (ones f * hid f) (pattern-lt f v a p))) in
-    lt-irrefl (4 * square f x)
-    (lt-of-lt-of-le (n .upper v a (positive-finite v p) l) (le-trans (sq-le (count f w + count f v) (count f (before f v) + count f v) (add-le (count f w) (count f (before f v)) (count f v) down)) (weaken ((count f (before f v) + count f v) * (count f (before f v) + count f v)) (4 * square f x) (e .lower))))
+pub before-most : (f : Format) (v w : Float) → T (fits f v) → T (positive v) → T (fits f w) → toBits f w < toBits f v → count f w ≤ count f (before f v)
+before-most f v w h p k l =
+    subst (λ (y : Float). count f y ≤ count f (before f v)) (ofBits-toBits f w k) (count-mono f (toBits f w) (toBits f v - 1) (next (toBits f w) (toBits f v) l) (less (toBits f v) (ones f * hid f) (pattern-lt f v h p)))
   where
     next : (a b : ℕ) → a < b → a ≤ b - 1
     next a b k = omega arith
@@ -238,20 +180,21 @@ no-lower f x v w a p e n l =
     less : (a b : ℕ) → a < b → a - 1 < b
     less a b k = omega arith
 
-    add-le : (a b c : ℕ) → a ≤ b → a + c ≤ b + c
-    add-le a b c k = omega arith
+-- y is not between r's neighbours, or it is r but for the sign
+abbrev pub Apart : Format → Float → Float → Type 0
+Apart f r y = (count f y ≤ count f (before f r)) ⊎ ((count f y ≡ count f r) ⊎ (count f (after f r) ≤ count f y))
 
-    weaken : (a b : ℕ) → a < b → a ≤ b
-    weaken a b k = omega arith
-
--- a positive value of the format whose midpoints with its neighbours enclose the root of x is the root
-pub enclosed-unique : (f : Format) (x v : Float) → T (fits f x) → T (positive x) → T (fits f v) → T (positive v) → Enclosed f x v → v ≡ squareRoot f x
-enclosed-unique f x v h p a q e = count-unique f v (squareRoot f x) a (n .held) q (n .above-zero) (same (less-or-not (count f v) (count f (squareRoot f x))) (less-or-not (count f (squareRoot f x)) (count f v)))
+pub none-between : (f : Format) (r y : Float) → T (fits f r) → T (positive r) → T (fits f y) → T (finite y) → Apart f r y
+unfolding fits
+none-between f r nan h p k g = absurd g
+none-between f r (inf s) h p k g = absurd g
+none-between f r (fin s zero e) h p k g = inl (subst (λ (z : ℕ). z ≤ count f (before f r)) (sym (count-zero f e)) (omega arith))
+none-between f r (fin s (suc m) e) h p k g = go (less-or-not (toBits f y) (toBits f r)) (less-or-not (toBits f r) (toBits f y))
   where
-    n : Nearest f x (squareRoot f x)
-    n = squareRoot-nearest f x h p
+    y : Float
+    y = fin false (suc m) e
 
-    same : (count f v < count f (squareRoot f x)) ⊎ (count f (squareRoot f x) ≤ count f v) → (count f (squareRoot f x) < count f v) ⊎ (count f v ≤ count f (squareRoot f x)) → count f v ≡ count f (squareRoot f x)
-    same (inl l) d = absurd (no-higher f x v (squareRoot f x) a q e n l)
-    same (inr g) (inl l) = absurd (no-lower f x v (squareRoot f x) a q e n l)
-    same (inr g) (inr k) = le-antisymm k g
+    go : (toBits f y < toBits f r) ⊎ (toBits f r ≤ toBits f y) → (toBits f r < toBits f y) ⊎ (toBits f y ≤ toBits f r) → Apart f r y
+    go (inl l) d = inl (before-most f r y h p k l)
+    go (inr a) (inl l) = inr (inr (after-least f r y k (lt→ltb 0 (suc m) (zero-lt-suc m)) l))
+    go (inr a) (inr b) = inr (inl (ap (λ (v : Float). count f v) (sym (ofBits-toBits f y k) ∙ ap (λ (z : ℕ). ofBits f z) (le-antisymm b a) ∙ ofBits-toBits f r h)))

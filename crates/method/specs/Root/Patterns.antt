@@ -1,17 +1,14 @@
 -- What number a bit pattern below the infinity's stands for, in either format. Assumes nothing.
 use mathlib.Core.Path.{_≡_, refl, sym, ap, _∙_, subst}
-use mathlib.Core.Logic.{_⊎_, inl, inr}
 use Prim.Native.Nat.{ℕ, zero, suc, _+_, _-_, _*_, _/_, _%_, _^_, _≤_, _<_}
-use native.Mathlib.Nat.{le-refl, lt-of-lt-of-le, lt-irrefl, mod-eq-of-lt, mod-lt, mul-comm, mul-one, mul-div-cancel, div-lt-iff-lt-mul, le-of-lt, mul-lt-mul-of-pos-right, lt-suc-self, suc-mul, le-add-right, le-of-eq}
+use native.Mathlib.Nat.{lt-of-lt-of-le, lt-irrefl, mod-eq-of-lt, mul-one, div-lt-iff-lt-mul}
 use native.Mathlib.Omega.{arith}
-use mathlib.Core.Bool.{Bool, true, false, not, cond}
-use lib.IntN.{ℤ, pos, negsuc}
-use lib.Dec.{T, leb, ltb, eqb, eqb→eq, not-T}
+use mathlib.Core.Bool.{Bool, false, cond}
+use lib.Dec.{leb, eqb, eqb→eq, not-T}
 use lib.Arith.{lt→nleb}
 use lib.Pow.{pow-pos}
-use lib.Ieee.{Float, nan, inf, fin, Format, prec, emax, low, up, down, odd, hid, ones, top, ofFields, ofBits}
+use lib.Ieee.{Float, nan, inf, Format, prec, low, odd, hid, ones, top, ofFields, ofBits}
 use lib.Ieee.Bits.{is-false, cond-no}
-use lib.Ieee.Fits.{down-pos}
 use lib.Ieee.Exact.{HasValue, odd-sign}
 use Rattle.method.specs.Root.{count}
 use Rattle.method.specs.Root.Counts.{count-is}
@@ -31,7 +28,7 @@ under-top f b h = lt-of-lt-of-le h (lt-of (ones f) (hid f))
     lt-of : (o h : ℕ) → o * h ≤ h * suc o
     lt-of o h = omega arith
 
-pub unsigned : (f : Format) (b : ℕ) → b < ones f * hid f → ofBits f b ≡ ofFields f false (b / hid f) (b % hid f)
+unsigned : (f : Format) (b : ℕ) → b < ones f * hid f → ofBits f b ≡ ofFields f false (b / hid f) (b % hid f)
 unsigned f b h =
     let l = under-top f b h in
     ofBits-is f b

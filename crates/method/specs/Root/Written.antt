@@ -1,19 +1,20 @@
 -- The bit pattern of a root: the digits that were dropped, counted in the exponent's field, and what was kept added. Assumes nothing.
 use mathlib.Core.Path.{_≡_, refl, sym, ap, _∙_, subst}
-use mathlib.Core.Logic.{_⊎_, inl, inr}
-use Prim.Native.Nat.{ℕ, zero, suc, _+_, _-_, _*_, _/_, _%_, _^_, _≤_, _<_}
+use mathlib.Core.Logic.{inl, inr}
+use Prim.Native.Nat.{ℕ, suc, _+_, _-_, _*_, _/_, _^_, _≤_, _<_}
 use native.Mathlib.Nat.{le-trans, le-of-eq, le-antisymm, lt-of-lt-of-le, lt-of-le-of-lt, lt-irrefl, lt-of-not-le, eq-or-lt-of-le, mul-comm, mul-assoc, mul-le-mul-right, mul-div-cancel, pow-succ'}
 use native.Mathlib.Omega.{arith}
 use lib.Dec.{T}
 use lib.Pow.{pow-pos, pow-mono, pow-lt, pow-add, shl-lt}
-use lib.Ieee.{Float, Format, prec, low, hid, size, fits, ofBits, toBits}
+use lib.Ieee.{Float, Format, prec, hid, size, fits, ofBits, toBits}
 use lib.Ieee.Bits.{ofBits-toBits}
 use lib.Ieee.Digits.{size-lt, size-le}
 use lib.Ieee.Fits.{two}
 use lib.Ieee.Positive.{positive}
-use Rattle.method.specs.Root.{square, rooted}
+use Rattle.method.specs.Root.{dropped, kept, square, rooted}
+use Rattle.method.specs.Root.Grid.{double-hid}
 use Rattle.method.specs.Root.Counts.{pattern, toBits-count}
-use Rattle.method.specs.Root.Laws.{dropped, kept, square-rounding, square-count, square-positive, square-fits}
+use Rattle.method.specs.Root.Laws.{square-rounding, square-count, square-positive, square-fits}
 
 pub pow-lt-back : (i p : ℕ) → 2 ^ i < 2 ^ p → i < p
 pow-lt-back i p h = lt-of-not-le (λ (g : p ≤ i). lt-irrefl (2 ^ i) (lt-of-lt-of-le h (pow-mono g)))
@@ -22,12 +23,6 @@ size-exact : (a n : ℕ) → 2 ^ a ≤ n → n < 2 ^ suc a → size n ≡ suc a
 size-exact a n lo hi = le-antisymm (size-le n (suc a) hi) (pow-lt-back a (size n) (lt-of-le-of-lt lo (size-lt n)))
 
 -- ---- a number of p digits, or 2 ^ p, times 2 ^ k: its pattern is k in the exponent's field, and the number added
-pub twice-hid : (p : ℕ) → 2 ≤ p → 2 ^ p ≡ 2 * 2 ^ (p - 1)
-twice-hid p h = ap (λ (z : ℕ). 2 ^ z) (sym (go p h)) ∙ pow-succ' 2 (p - 1)
-  where
-    go : (p : ℕ) → 2 ≤ p → suc (p - 1) ≡ p
-    go p h = omega arith
-
 pattern-under : (f : Format) (k q : ℕ) → 2 ^ (prec f - 1) ≤ q → q < 2 ^ prec f → pattern f (q * 2 ^ k) ≡ k * hid f + q
 pattern-under f k q lo hi =
     let n = q * 2 ^ k in
@@ -46,10 +41,10 @@ pattern-at : (f : Format) (k : ℕ) → pattern f (2 ^ prec f * 2 ^ k) ≡ k * h
 pattern-at f k =
     let n = 2 ^ prec f * 2 ^ k in
     let h = hid f in
-    let e : n ≡ h * 2 ^ suc k = ap (λ (y : ℕ). y * 2 ^ k) (twice-hid (prec f) (two f) ∙ mul-comm 2 h) ∙ mul-assoc h 2 (2 ^ k) ∙ ap (λ (y : ℕ). h * y) (sym (pow-succ' 2 k)) in
+    let e : n ≡ h * 2 ^ suc k = ap (λ (y : ℕ). y * 2 ^ k) (double-hid (prec f) (two f) ∙ mul-comm 2 h) ∙ mul-assoc h 2 (2 ^ k) ∙ ap (λ (y : ℕ). h * y) (sym (pow-succ' 2 k)) in
     ap (λ (y : ℕ). pattern f y) e
     ∙ pattern-under f (suc k) h (le-of-eq refl) (pow-lt (less (prec f) (two f)))
-    ∙ go k h (2 ^ prec f) (twice-hid (prec f) (two f))
+    ∙ go k h (2 ^ prec f) (double-hid (prec f) (two f))
   where
     less : (p : ℕ) → 2 ≤ p → p - 1 < p
     less p h = omega arith
