@@ -6,7 +6,12 @@ use Rattle.method.specs.Reflection.{Reflection}
 use Rattle.method.specs.Work.{Shape as Sizes}
 use Rattle.method.specs.Walk.{Walk as Counts}
 use Rattle.method.specs.Positions.{Corner}
+use Rattle.method.specs.Outcome as Outcome
 use Rattle.svd.specs.declared.givens.Rotation.{Rotation}
+use Rattle.svd.specs.declared.settings.Settings.{Settings}
+use Rattle.svd.specs.declared.report.Report.{Report}
+use Rattle.svd.specs.declared.report.Word.{Word}
+use Rattle.svd.specs.declared.report.Word.the-variants.{None, Settled, Stopped}
 use Rattle.svd.specs.declared.shape.Shape.{Shape}
 use Rattle.svd.specs.declared.primitives.Walk.{Walk}
 
@@ -29,3 +34,26 @@ counts w = record { range = w .range; counter = w .counter; passes = w .passes; 
 -- the six counters that the drop helper of document 004 keeps
 abbrev pub corner : Walk → Corner
 corner w = record { range = w .range; inter = w .inter; coupling = w .e1; topLeft = w .tl; bottomLeft = w .bl; counter = w .counter }
+
+-- the settings
+abbrev pub settingsOf : Settings → Outcome.Settings
+settingsOf s = record { limit = s .limit; credit = s .credit; tolerance = s .tolerance; absolute = s .absolute; floor = s .floor }
+
+-- the report's word
+abbrev pub wordOf : Word → Outcome.Word
+wordOf None = Outcome.none
+wordOf Settled = Outcome.settled
+wordOf Stopped = Outcome.stopped
+
+-- the report
+abbrev pub reportOf : Report → Outcome.Report
+reportOf r =
+    record {
+      number = r .number;
+      place = r .place;
+      word = wordOf (r .word);
+      passes = r .passes;
+      sweeps = r .sweeps;
+      drops = r .drops;
+      range = r .range;
+    }

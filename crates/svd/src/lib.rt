@@ -1,4 +1,6 @@
 mod givens;
 mod householder;
 mod primitives;
+pub mod report;
+pub mod settings;
 mod shape;
