@@ -117,11 +117,11 @@ module _ (f : Format) (floor : Float) (rows cols stride i j : ℕ) (a : List Flo
   unfolding rowMatrix
   row-moved e t = rw e (rw (rw e at t, rowMatrix))
 
-module _ (f : Format) (r : Reflection) (n kept i : ℕ) (a : List Float) where
-  pub factor-still : eq (r .tau) plusZero ≡ true → factorReflected f r n kept i a ≡ a
+module _ (f : Format) (n kept i : ℕ) (a : List Float) (r r′ : Reflection) where
+  pub factor-still : r ≡ r′ → eq (r .tau) plusZero ≡ true → a ≡ factorReflected f r′ n kept i a
   unfolding factorReflected
-  factor-still t = rw (t, factorReflected)
+  factor-still e t = rw (rw e at t, factorReflected)
 
-  pub factor-moved : eq (r .tau) plusZero ≡ false → factorReflected f r n kept i a ≡ reflectedRight f (r .vector) (r .tau) n 0 i kept (n - i) a
+  pub factor-moved : r ≡ r′ → eq (r .tau) plusZero ≡ false → reflectedRight f (r .vector) (r .tau) n 0 i kept (n - i) a ≡ factorReflected f r′ n kept i a
   unfolding factorReflected
-  factor-moved t = rw (t, factorReflected)
+  factor-moved e t = rw e (rw (rw e at t, factorReflected))

@@ -68,8 +68,8 @@ pub factor-length : (f : Format) (r : Reflection) (n kept i : ℕ) (a : List Flo
 factor-length f r n kept i a = go (eq (r .tau) plusZero) refl
   where
     go : (t : Bool) → eq (r .tau) plusZero ≡ t → length (factorReflected f r n kept i a) ≡ length a
-    go true e = rw (factor-still f r n kept i a e) refl
-    go false e = rw (factor-moved f r n kept i a e) (reflectedRight-length f _ _ _ _ _ _ _ _)
+    go true e = rw (← factor-still f n kept i a r r refl e) refl
+    go false e = rw (← factor-moved f n kept i a r r refl e) (reflectedRight-length f _ _ _ _ _ _ _ _)
 
 module _ (f : Format) (floor : Float) (z : Shape) where
   pub columnZeroed-lengths : (i j : ℕ) (w : Work) → SameLengths w (columnZeroed f floor z i j w)

@@ -1,3 +1,4 @@
+mod bidiagonalization;
 mod givens;
 mod householder;
 mod primitives;
