@@ -7,11 +7,11 @@ use lib.Dec.{eqb}
 use lib.ListN.{length, getD, set, length-set}
 use lib.Ieee.{Float, nan, Format, eq}
 use Rattle.method.specs.Floats.{plusZero}
-use Rattle.method.specs.Turns.{turns, turns-keep}
+use Rattle.method.specs.Turns.{turns-keep}
 use Rattle.method.specs.Work.{Work, Shape, packed}
 use Rattle.method.specs.Rotation.{Rotation, rowsTurned-length, columnsTurned-length}
 use Rattle.method.specs.Reflection.{Reflection, blank, reflectionOf, reflectionOf-entries, reflectedRight-length, reflectedLeft-length}
-use Rattle.method.specs.Bidiagonal.{columnReflection, columnCopied, columnCleared, headed, columnMatrix, rowMatrix, factorReflected, columnZeroed, rowZeroed, firstZeroed, thenZeroed, bidiagonal, column-still, column-moved, row-still, row-moved, factor-still, factor-moved}
+use Rattle.method.specs.Bidiagonal.{columnReflection, columnCopied, columnCleared, headed, columnMatrix, rowMatrix, factorReflected, columnZeroed, rowZeroed, firstZeroed, thenZeroed, placesZeroed, bidiagonal, column-still, column-moved, row-still, row-moved, factor-still, factor-moved}
 use Rattle.method.specs.Chase.{turned, pushed, stepped, swept, firstRotation}
 use Rattle.method.specs.Walk.{Walk, State, run}
 use Rattle.method.specs.Walk.Counts.{held-keeps}
@@ -88,24 +88,18 @@ module _ (f : Format) (floor : Float) (z : Shape) where
   then-lengths true k w = rowZeroed-lengths k (k + 1) w
   then-lengths false k w = columnZeroed-lengths (k + 1) k w
 
+  pub places-lengths : (upper : Bool) (n : ℕ) (w : Work) → SameLengths w (placesZeroed f floor z upper n w)
+  unfolding placesZeroed
+  places-lengths upper n w =
+      turns-keep 0 _ (SameLengths w) (λ k s e. onward e (onward (first-lengths upper k s) (then-lengths upper k _))) n w (same w)
+
   pub bidiagonal-lengths : (upper : Bool) (c : ℕ) (w : Work) → SameLengths w (bidiagonal f floor z upper c w)
   unfolding bidiagonal
   bidiagonal-lengths upper c w = go (eqb (z .rows) (z .cols)) refl
     where
-      s : Work
-      s = turns 0 (c - 1) (λ k s. thenZeroed f floor z upper k (firstZeroed f floor z upper k s)) w
-
-      down : SameLengths w s
-      down =
-          turns-keep 0 (λ k s. thenZeroed f floor z upper k (firstZeroed f floor z upper k s)) (SameLengths w)
-          (λ k s e. onward e (onward (first-lengths upper k s) (then-lengths upper k _)))
-          (c - 1)
-          w
-          (same w)
-
       go : (t : Bool) → eqb (z .rows) (z .cols) ≡ t → SameLengths w (bidiagonal f floor z upper c w)
-      go true e = rw (e, bidiagonal) down
-      go false e = rw (e, bidiagonal) (onward down (first-lengths upper (c - 1) s))
+      go true e = rw (e, bidiagonal) (places-lengths upper (c - 1) w)
+      go false e = rw (e, bidiagonal) (onward (places-lengths upper (c - 1) w) (first-lengths upper (c - 1) _))
 
 -- ---- a sweep
 

@@ -11,7 +11,7 @@ ghost use lib.ListN.{length};
 ghost use lib.Ieee.{binary64};
 ghost use Rattle.method.specs.Work.{work};
 ghost use Rattle.method.specs.Reflection.{blank, reflectionOf};
-ghost use Rattle.method.specs.Bidiagonal.{columnCopied, columnCleared, columnReflection, columnMatrix, rowMatrix, factorReflected, firstZeroed, thenZeroed, bidiagonal};
+ghost use Rattle.method.specs.Bidiagonal.{columnCopied, columnCleared, columnReflection, columnMatrix, rowMatrix, factorReflected, firstZeroed, thenZeroed, placesZeroed, bidiagonal};
 ghost use Rattle.svd.specs.Values.{sizes, Roomy, Lent, Taken};
 
 // The n entries of column j from row i on, into a blank vector.
@@ -95,4 +95,83 @@ fn zero_row(b: &mut [f64], v: &mut [f64], z: Shape, i: usize, j: usize, floor: f
     let below = i + 1;
     rapply_householder(b, &p, tau, stride, below, j, z.rows - below, n);
     rapply_householder(v, &p, tau, z.cols, 0, j, z.vrows, n);
+}
+
+// Place k of the diagonal: its column in the upper form, its row in the lower.
+fn zero_first(
+    b: &mut [f64],
+    u: &mut [f64],
+    v: &mut [f64],
+    z: Shape,
+    upper: bool,
+    k: usize,
+    floor: f64,
+)
+    requires { ⌜ (k < z .rows) × (k < z .cols) × Roomy (sizes z) (now b) × Lent (z .rows) (z .urows) (now u) × Lent (z .cols) (z .vrows) (now v) ⌝ }
+    ensures { λ _. ⌜ work (now (b .exit)) (now (u .exit)) (now (v .exit)) ≡ firstZeroed binary64 floor (sizes z) upper k (work (now (b .entry)) (now (u .entry)) (now (v .entry))) ⌝ }
+{
+    if upper {
+        zero_col(b, u, z, k, k, floor);
+    } else {
+        zero_row(b, v, z, k, k, floor);
+    }
+}
+
+// Then its row right of the coupling in the upper form, its column below it in the lower.
+fn zero_then(
+    b: &mut [f64],
+    u: &mut [f64],
+    v: &mut [f64],
+    z: Shape,
+    upper: bool,
+    k: usize,
+    floor: f64,
+)
+    requires { ⌜ (k + 1 < z .rows) × (k + 1 < z .cols) × Roomy (sizes z) (now b) × Lent (z .rows) (z .urows) (now u) × Lent (z .cols) (z .vrows) (now v) ⌝ }
+    ensures { λ _. ⌜ work (now (b .exit)) (now (u .exit)) (now (v .exit)) ≡ thenZeroed binary64 floor (sizes z) upper k (work (now (b .entry)) (now (u .entry)) (now (v .entry))) ⌝ }
+{
+    if upper {
+        zero_row(b, v, z, k, k + 1, floor);
+    } else {
+        zero_col(b, u, z, k + 1, k, floor);
+    }
+}
+
+// All places of the diagonal but the last.
+fn zero_places(
+    b: &mut [f64],
+    u: &mut [f64],
+    v: &mut [f64],
+    z: Shape,
+    upper: bool,
+    pivot: usize,
+    floor: f64,
+)
+    requires { ⌜ (pivot < z .rows) × (pivot < z .cols) × Roomy (sizes z) (now b) × Lent (z .rows) (z .urows) (now u) × Lent (z .cols) (z .vrows) (now v) ⌝ }
+    ensures { λ _. ⌜ work (now (b .exit)) (now (u .exit)) (now (v .exit)) ≡ placesZeroed binary64 floor (sizes z) upper pivot (work (now (b .entry)) (now (u .entry)) (now (v .entry))) ⌝ }
+{
+    for k in 0..pivot {
+        zero_first(b, u, v, z, upper, k, floor);
+        zero_then(b, u, v, z, upper, k, floor);
+    }
+}
+
+// The bidiagonal form: `card` is the smaller of rows and columns, `upper` says which form.
+pub(crate) fn bidiagonal(
+    b: &mut [f64],
+    u: &mut [f64],
+    v: &mut [f64],
+    z: Shape,
+    upper: bool,
+    card: usize,
+    floor: f64,
+)
+    requires { ⌜ (1 ≤ card) × (card ≤ z .rows) × (card ≤ z .cols) × Roomy (sizes z) (now b) × Lent (z .rows) (z .urows) (now u) × Lent (z .cols) (z .vrows) (now v) ⌝ }
+    ensures { λ _. ⌜ work (now (b .exit)) (now (u .exit)) (now (v .exit)) ≡ bidiagonal binary64 floor (sizes z) upper card (work (now (b .entry)) (now (u .entry)) (now (v .entry))) ⌝ }
+{
+    let pivot = card - 1;
+    zero_places(b, u, v, z, upper, pivot, floor);
+    if z.rows != z.cols {
+        zero_first(b, u, v, z, upper, pivot, floor);
+    }
 }
