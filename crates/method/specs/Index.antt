@@ -14,6 +14,9 @@ row-next k s = rw (add-one, suc-mul)
 pub row-below : {k n : ℕ} (s : ℕ) → k < n → k * s + s ≤ n * s
 row-below {k} {n} s h = rw (← suc-mul) (mul-le-mul-right s h)
 
+pub row-in : (k n s : ℕ) → k < n → k * s + s ≤ n * s
+row-in k n s h = row-below s h
+
 -- the same from row i on
 pub row-fits : (i s : ℕ) {k n : ℕ} → k < n → (i + k) * s + s ≤ (i + n) * s
 row-fits i s {k} {n} h = row-below s (let l : i + k < i + n = omega arith in l)

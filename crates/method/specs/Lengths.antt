@@ -12,7 +12,7 @@ use Rattle.method.specs.Work.{Work, Shape, packed}
 use Rattle.method.specs.Rotation.{Rotation, rowsTurned-length, columnsTurned-length}
 use Rattle.method.specs.Reflection.{Reflection, blank, reflectionOf, reflectionOf-entries, reflectedRight-length, reflectedLeft-length}
 use Rattle.method.specs.Bidiagonal.{columnReflection, columnCopied, columnCleared, headed, columnMatrix, rowMatrix, factorReflected, columnZeroed, rowZeroed, firstZeroed, thenZeroed, placesZeroed, bidiagonal, column-still, column-moved, row-still, row-moved, factor-still, factor-moved}
-use Rattle.method.specs.Chase.{turned, pushed, stepped, swept, firstRotation}
+use Rattle.method.specs.Chase.{turned, pushed, stepped, steps, swept, firstRotation}
 use Rattle.method.specs.Walk.{Walk, State, run}
 use Rattle.method.specs.Walk.Counts.{held-keeps}
 use Rattle.method.specs.Outcome.{Settings, Outcome, walkedFrom, rulesOf, isUpper, card, accepted, outcome, refusalOf}
@@ -109,16 +109,27 @@ module _ (f : Format) (z : Shape) where
   turned-lengths g true i j n w = record { matrix = rowsTurned-length f g _ i j n _; u = columnsTurned-length f g _ i 0 _ _; v = refl }
   turned-lengths g false i j n w = record { matrix = columnsTurned-length f g _ i j n _; u = refl; v = columnsTurned-length f g _ i 0 _ _ }
 
+  pub steps-lengths : (upper : Bool) (n : ℕ) (w : Work) → SameLengths w (steps f z upper n w)
+  unfolding steps
+  steps-lengths upper n w =
+      turns-keep 0 (stepped f z upper) (SameLengths w)
+      (λ l s e. onward e (onward (turned-lengths _ upper l l 3 s) (turned-lengths _ (not upper) (l + 1) l 3 _)))
+      n
+      w
+      (same w)
+
   pub swept-lengths : (upper : Bool) (k : ℕ) (w : Work) → SameLengths w (swept f z upper k w)
   unfolding swept
   swept-lengths upper k w =
-      onward
-      (turns-keep 0 (stepped f z upper) (SameLengths w)
-      (λ l s e. onward e (onward (turned-lengths _ upper l l 3 s) (turned-lengths _ (not upper) (l + 1) l 3 _)))
-      k
-      _
-      (turned-lengths (firstRotation f (z .stride) upper k (w .matrix)) (not upper) 0 0 2 w))
-      (turned-lengths _ upper k k 2 _)
+      onward (turned-lengths (firstRotation f (z .stride) upper k (w .matrix)) (not upper) 0 0 2 w)
+      (onward (steps-lengths upper k _) (turned-lengths _ upper k k 2 _))
+
+  -- the same of lists that are those of a turn, or of the steps
+  pub turned-kept : (g : Rotation) (byRow : Bool) (i j n : ℕ) (w w′ : Work) → w′ ≡ turned f z g byRow i j n w → SameLengths w w′
+  turned-kept g byRow i j n w w′ e = rw e (turned-lengths g byRow i j n w)
+
+  pub steps-kept : (upper : Bool) (n : ℕ) (w w′ : Work) → w′ ≡ steps f z upper n w → SameLengths w w′
+  steps-kept upper n w w′ e = rw e (steps-lengths upper n w)
 
 -- ---- a call
 

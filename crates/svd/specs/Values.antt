@@ -7,7 +7,8 @@ use lib.Ieee.{Float, binary64}
 use Rattle.method.specs.Rotation.{Rotation as Turn}
 use Rattle.method.specs.Reflection.{Reflection}
 use Rattle.method.specs.Bidiagonal.{columnReflection, headed}
-use Rattle.method.specs.Work.{Shape as Sizes}
+use Rattle.method.specs.Work.{Work, Shape as Sizes}
+use Rattle.method.specs.Lengths.{SameLengths}
 use Rattle.method.specs.Walk.{Walk as Counts}
 use Rattle.method.specs.Positions.{Corner}
 use Rattle.method.specs.Outcome as Outcome
@@ -82,3 +83,21 @@ pub record Roomy (z : Sizes) (b : List Float) : Type 0 where
 pub record Lent (n kept : ℕ) (a : List Float) : Type 0 where
   pub few : kept ≤ 48
   pub whole : kept * n ≤ length a
+
+-- both go by the lengths alone
+module _ (z : Sizes) {w w′ : Work} (s : SameLengths w w′) where
+  pub roomy-kept : Roomy z (w .matrix) → Roomy z (w′ .matrix)
+  roomy-kept r =
+      record {
+        rows-few = r .rows-few;
+        cols-few = r .cols-few;
+        stride-few = r .stride-few;
+        wide = r .wide;
+        whole = rw (s .matrix) (r .whole);
+      }
+
+  pub u-kept : (n kept : ℕ) → Lent n kept (w .u) → Lent n kept (w′ .u)
+  u-kept n kept l = record { few = l .few; whole = rw (s .u) (l .whole) }
+
+  pub v-kept : (n kept : ℕ) → Lent n kept (w .v) → Lent n kept (w′ .v)
+  v-kept n kept l = record { few = l .few; whole = rw (s .v) (l .whole) }

@@ -14,7 +14,7 @@ use Rattle.method.specs.Turns.{turns-alike}
 use Rattle.method.specs.Work.{Work, Shape, work, packed}
 use Rattle.method.specs.Rotation.{Rotation, rotationOf, rowsTurned, columnsTurned}
 use Rattle.method.specs.Bidiagonal.{columnMatrix, rowMatrix, columnZeroed, rowZeroed, firstZeroed, thenZeroed, placesZeroed, bidiagonal}
-use Rattle.method.specs.Chase.{along, turned, pushed, stepped, swept, negligible, firstRotation}
+use Rattle.method.specs.Chase.{along, turned, pushed, stepped, steps, swept, negligible, firstRotation}
 use Rattle.method.specs.Walk.{Walk, State, start, run, enough, walked}
 use Rattle.method.specs.Walk.Counts as Counts
 use Rattle.method.specs.Walk.Limits as Limits
@@ -137,7 +137,7 @@ module _ (f : Format) (rows cols : ℕ) where
       ∙ ap (λ (m : List Float). turned f plain (rotationOf f (along byRow cols i j m) (along byRow cols (i + 1) j m)) byRow i j n w′ .matrix) e
 
   swept-same : (upper : Bool) (k : ℕ) (w w′ : Work) → w .matrix ≡ w′ .matrix → swept f full upper k w .matrix ≡ swept f plain upper k w′ .matrix
-  unfolding swept
+  unfolding swept steps
   swept-same upper k w w′ e =
       pushed-same upper k k 2 _ _
       (turns-alike (λ (s s′ : Work). s .matrix ≡ s′ .matrix) 0 (stepped f full upper) (stepped f plain upper)
