@@ -17,10 +17,11 @@ ghost use lib.Ieee.{nan, binary64};
 ghost use Rattle.method.specs.Work.{work};
 ghost use Rattle.method.specs.Walk.{stands, run};
 ghost use Rattle.method.specs.Walk.Loop.{Room};
-ghost use Rattle.method.specs.Positions.{Placed, couplingPlace};
+ghost use Rattle.method.specs.Positions.{couplingPlace};
 ghost use Rattle.method.specs.Chase.{along, turned, pushed, stepped, steps, negligible, firstRotation, swept};
 ghost use Rattle.method.specs.Outcome.{rulesOf};
-ghost use Rattle.svd.specs.Values.{rotation, sizes, counts, corner, settingsOf, Roomy, Lent};
+ghost use Rattle.svd.specs.Values.{rotation, sizes, counts, Roomy, Lent};
+ghost use Rattle.svd.specs.Passes.{Standing};
 
 // Entry j of line i, a row or a column.
 fn along(b: &[f64], stride: usize, rowwise: bool, i: usize, j: usize) -> f64
@@ -149,4 +150,33 @@ fn is_negligible(
     let br = bl + 1;
     let scale = float::magnitude(b[tl]) + float::magnitude(b[br]);
     float::magnitude(b[e1]) < float::smaller(scale * s.tolerance, s.absolute)
+}
+
+// At most n passes from a record.
+pub(crate) fn decomp_givens(
+    b: &mut [f64],
+    u: &mut [f64],
+    v: &mut [f64],
+    z: Shape,
+    upper: bool,
+    first: Walk,
+    n: usize,
+    s: Settings,
+) -> Walk
+    requires { ⌜ Roomy (sizes z) (now b) × Lent (z .rows) (z .urows) (now u) × Lent (z .cols) (z .vrows) (now v) × Standing (sizes z) upper n first ⌝ }
+    ensures { λ r. ⌜ stands (counts r) (work (now (b .exit)) (now (u .exit)) (now (v .exit))) ≡ run (rulesOf binary64 (sizes z) upper (s .tolerance) (s .absolute)) (s .limit) (s .credit) n (stands (counts first) (work (now (b .entry)) (now (u .entry)) (now (v .entry)))) ⌝ }
+{
+    let mut walk = first;
+    let mut made = 0;
+    while made < n && walk.range > 1 && walk.counter < s.limit {
+        made += 1;
+        let drops = is_negligible(b, z.stride, upper, walk.inter, walk.e1, walk.tl, walk.bl, s);
+        if drops {
+            walk = walk.drop(z.stride, s.credit);
+        } else {
+            givens_iteration(b, u, v, z, upper, walk.inter, walk.tl, walk.bl);
+            walk = walk.sweep();
+        }
+    }
+    walk
 }
