@@ -17,7 +17,7 @@ ghost use lib.ListN.{length};
 ghost use lib.Ieee.{binary64};
 ghost use Rattle.method.specs.Work.{work, packed};
 ghost use Rattle.method.specs.Walk.{stands};
-ghost use Rattle.method.specs.Outcome.{boundFit, floorFit, refusal, refusalOf, outcomeOf, walkedFrom, plainOutcome, fullOutcome};
+ghost use Rattle.method.specs.Outcome.{boundFit, floorFit, card, refusal, refusalOf, outcomeOf, walkedFrom, plainOutcome, fullOutcome};
 ghost use Rattle.svd.specs.Values.{sizes, counts, settingsOf, reportOf, refusalIn, Roomy, Lent};
 
 // The number of a refusal and its place; both 0 where there is none.

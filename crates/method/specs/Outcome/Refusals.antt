@@ -82,6 +82,11 @@ pub first-miss : (c : Check) (cs : List Check) → c .fails ≡ false → firstO
 unfolding firstOf
 first-miss c cs e = rw (e, firstOf)
 
+-- where no check is left, there is no refusal
+pub first-none : firstOf [] ≡ refusal 0 0
+unfolding firstOf
+first-none = refl
+
 -- each check's test says the condition that stands at the same place
 infixr 3 _⨾_
 data Means : List Check → List (Type 0) → Type 1 where

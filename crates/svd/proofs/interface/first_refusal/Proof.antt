@@ -5,8 +5,7 @@ use mathlib.Core.Path.{sym, _∙_}
 use native.Mathlib.Omega.{arith}
 use borrow.Author.Tests.{lt-ltb, le-ltb}
 use Rattle.method.specs.Index.{few}
-use Rattle.method.specs.Outcome.{firstOf}
-use Rattle.method.specs.Outcome.Refusals.{first-hit, first-miss}
+use Rattle.method.specs.Outcome.Refusals.{first-hit, first-miss, first-none}
 use Rattle.svd.specs.Checks.{not-large, not-wrong}
 use Rattle.svd.proofs.interface.first_refusal.Statement.{statement}
 use Rattle.svd.proofs.interface.first_refusal.Tie as tie
@@ -48,8 +47,7 @@ returns-8 : tie.Need-returns-8
 returns-8 c = c .refuse8 .ensures ∙ rw (c .before .before .first-bad .ensures) (sym (first-miss _ _ (sym (c .before .before .before .before .before .before .before .before .before .before .before .before .before .before .before .before .no-size .ensures) ∙ c .before .before .before .before .before .before .before .before .before .before .before .before .before .before .before .if1 .left) ∙ first-miss _ _ (sym (c .before .before .before .before .before .before .before .before .before .before .before .before .before .before .too-large .ensures) ∙ c .before .before .before .before .before .before .before .before .before .before .before .before .before .if2 .left) ∙ first-miss _ _ (sym (c .before .before .before .before .before .before .before .before .before .before .before .before .wrong-length .ensures) ∙ c .before .before .before .before .before .before .before .before .before .before .before .if3 .left) ∙ first-miss _ _ (sym (c .before .before .before .before .before .before .before .before .before .before .wrong-length2 .ensures) ∙ c .before .before .before .before .before .before .before .before .before .if4 .left) ∙ first-miss _ _ (sym (c .before .before .before .before .before .before .before .before .wrong-length3 .ensures) ∙ c .before .before .before .before .before .before .before .if5 .left) ∙ first-miss _ _ (sym (c .before .before .before .before .before .before .over-limit .ensures) ∙ c .before .before .before .before .before .if6 .left) ∙ first-miss _ _ (sym (c .before .before .before .before .bounds-unfit .ensures) ∙ c .before .before .before .if7 .left) ∙ first-hit _ _ (rw (c .before .before .first-bad .ensures) at (lt-ltb _ _ (c .before .if8 .taken)))))
 
 returns-9 : tie.Need-returns-9
-unfolding firstOf
-returns-9 c = c .refuse9 .ensures ∙ sym (first-miss _ _ (sym (c .before .before .before .before .before .before .before .before .before .before .before .before .before .before .before .before .no-size .ensures) ∙ c .before .before .before .before .before .before .before .before .before .before .before .before .before .before .before .if1 .left) ∙ first-miss _ _ (sym (c .before .before .before .before .before .before .before .before .before .before .before .before .before .before .too-large .ensures) ∙ c .before .before .before .before .before .before .before .before .before .before .before .before .before .if2 .left) ∙ first-miss _ _ (sym (c .before .before .before .before .before .before .before .before .before .before .before .before .wrong-length .ensures) ∙ c .before .before .before .before .before .before .before .before .before .before .before .if3 .left) ∙ first-miss _ _ (sym (c .before .before .before .before .before .before .before .before .before .before .wrong-length2 .ensures) ∙ c .before .before .before .before .before .before .before .before .before .if4 .left) ∙ first-miss _ _ (sym (c .before .before .before .before .before .before .before .before .wrong-length3 .ensures) ∙ c .before .before .before .before .before .before .before .if5 .left) ∙ first-miss _ _ (sym (c .before .before .before .before .before .before .over-limit .ensures) ∙ c .before .before .before .before .before .if6 .left) ∙ first-miss _ _ (sym (c .before .before .before .before .bounds-unfit .ensures) ∙ c .before .before .before .if7 .left) ∙ first-miss _ _ (rw (c .before .before .first-bad .ensures) at (le-ltb _ _ (c .before .if8 .left))))
+returns-9 c = c .refuse9 .ensures ∙ sym (first-miss _ _ (sym (c .before .before .before .before .before .before .before .before .before .before .before .before .before .before .before .before .no-size .ensures) ∙ c .before .before .before .before .before .before .before .before .before .before .before .before .before .before .before .if1 .left) ∙ first-miss _ _ (sym (c .before .before .before .before .before .before .before .before .before .before .before .before .before .before .too-large .ensures) ∙ c .before .before .before .before .before .before .before .before .before .before .before .before .before .if2 .left) ∙ first-miss _ _ (sym (c .before .before .before .before .before .before .before .before .before .before .before .before .wrong-length .ensures) ∙ c .before .before .before .before .before .before .before .before .before .before .before .if3 .left) ∙ first-miss _ _ (sym (c .before .before .before .before .before .before .before .before .before .before .wrong-length2 .ensures) ∙ c .before .before .before .before .before .before .before .before .before .if4 .left) ∙ first-miss _ _ (sym (c .before .before .before .before .before .before .before .before .wrong-length3 .ensures) ∙ c .before .before .before .before .before .before .before .if5 .left) ∙ first-miss _ _ (sym (c .before .before .before .before .before .before .over-limit .ensures) ∙ c .before .before .before .before .before .if6 .left) ∙ first-miss _ _ (sym (c .before .before .before .before .bounds-unfit .ensures) ∙ c .before .before .before .if7 .left) ∙ first-miss _ _ (rw (c .before .before .first-bad .ensures) at (le-ltb _ _ (c .before .if8 .left))) ∙ first-none)
 
 pub first-refusal-spec : {M : Type 1} → statement M
 first-refusal-spec = tie.close (tie.spec (λ c κs. search needs) (λ c κs. search needs) returns (λ c κs. search needs) (λ c κs. search needs) returns-2 mul-wrong-length (λ c κs. search needs) (λ c κs. search needs) returns-3 mul-wrong-length-2 (λ c κs. search needs) (λ c κs. search needs) returns-4 mul-wrong-length-3 (λ c κs. search needs) (λ c κs. search needs) returns-5 (λ c κs. search needs) (λ c κs. search needs) returns-6 (λ c κs. search needs) (λ c κs. search needs) returns-7 first-bad-requires (λ c κs. search needs) returns-8 (λ c κs. search needs) returns-9)
