@@ -1,0 +1,44 @@
+-- After i turns the first i of the diagonal are 1. Assumes nothing.
+use borrow.Author.Needs.{needs}
+use Prim.Native.Nat.{_+_, _-_, _*_, _<_, _≤_, zero-le}
+use mathlib.Core.Path.{_≡_, refl, ap, _∙_}
+use native.Mathlib.Omega.{arith}
+use native.Mathlib.Nat.{le-antisymm}
+use lib.ListN.{length, length-set, length-replicate, set}
+use Rattle.method.specs.Turns.{turns, turns-none, turns-next}
+use Rattle.method.specs.Outcome.{identity}
+use Rattle.method.specs.Floats.{one, one-64, plusZero}
+use Rattle.method.specs.Index.{row-in, few}
+use Rattle.svd.proofs.identity.ones.Statement.{statement}
+use Rattle.svd.proofs.identity.ones.Tie as tie
+
+abbrev Inv-loop : tie.InvT-loop
+Inv-loop a₀ n i₀ a i = (i ≤ n) × (length a ≡ length a₀) × (a ≡ turns 0 i (λ k l. set l (k * n + k) one) a₀)
+
+abbrev μ-loop : tie.MeasureT-loop
+μ-loop a₀ n i₀ a i = n - i
+
+loop-holds : tie.Need-loop-holds Inv-loop μ-loop
+loop-holds c = (omega arith, refl, turns-none 0 _ _)
+
+mul-at : tie.Need-mul-at Inv-loop μ-loop
+mul-at c = record { fits = omega (arith, row-in (c .before .loop .i) (c .before .before .args .n) (c .before .before .args .n) (omega arith), few (c .before .before .args .n) (c .before .before .args .n) (omega arith) (omega arith)) }
+
+add-at : tie.Need-add-at Inv-loop μ-loop
+add-at c = omega (arith, row-in (c .before .loop .i) (c .before .before .args .n) (c .before .before .args .n) (omega arith), few (c .before .before .args .n) (c .before .before .args .n) (omega arith) (omega arith))
+
+mul-a : tie.Need-mul-a Inv-loop μ-loop
+mul-a c = omega (arith, row-in (c .before .loop .i) (c .before .before .args .n) (c .before .before .args .n) (omega arith), few (c .before .before .args .n) (c .before .before .args .n) (omega arith) (omega arith))
+
+slice-write-a : tie.Need-slice-write-a Inv-loop μ-loop
+slice-write-a c = omega (arith, row-in (c .before .loop .i) (c .before .before .args .n) (c .before .before .args .n) (omega arith), few (c .before .before .args .n) (c .before .before .args .n) (omega arith) (omega arith), ap length (c .before .before .pre .1) ∙ length-replicate (c .before .before .args .n * c .before .before .args .n) plusZero)
+
+loop-again : tie.Need-loop-again Inv-loop μ-loop
+loop-again c = (omega arith, simp length-set (omega arith), rw (turns-next, one-64) (cc))
+
+returns : tie.Need-returns Inv-loop μ-loop
+unfolding identity
+returns c = cc (le-antisymm (c .before .loop .inv .0) (c .loop-test .left))
+
+pub ones-spec : {M : Type 1} → statement M
+ones-spec = tie.close (tie.spec Inv-loop μ-loop loop-holds mul-at add-at mul-a slice-write-a (λ c. search needs) (λ c. search needs) loop-again (λ c. search needs) returns)

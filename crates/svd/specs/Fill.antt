@@ -1,0 +1,104 @@
+-- For the proofs of the identity fill and of the row view: what each way out answers. Assumes nothing.
+use mathlib.Core.Path.{_≡_, refl, sym, ap, _∙_}
+use mathlib.Core.Bool.{Bool, true, false, true≢false}
+use mathlib.Core.List.{List, [], _∷_, _++_, append-nil}
+use Prim.Native.Nat.{ℕ, zero, suc, _+_, _-_, _*_, _≤_, _<_, zero-le}
+use native.Mathlib.Omega.{arith}
+use lib.Dec.{ltb, eqb}
+use lib.ListN.{length, set, take, drop, replicate, getD, length-replicate}
+use lib.Seq.{drop-cons, set-at, drop-length}
+use lib.Ieee.{Float, nan}
+use borrow.Author.Tests.{ltb-true, ltb-false, eq-eqb, ne-eqb}
+use Rattle.method.specs.Floats.{plusZero, pick}
+use Rattle.method.specs.Turns.{turns-none, turns-suc}
+use Rattle.method.specs.Reflection.{cleared}
+use Rattle.method.specs.Outcome.{identity, filled, fillNumber, fillOutcome, viewFit, rowViewed}
+use Rattle.method.specs.Outcome.Refusals.{FillFit, fill-numbers, fill-refused, fill-accepted, ViewFit, view-fit, row-viewed, row-refused}
+use Rattle.method.specs.Index.{row-in, few}
+
+-- a copy may stand before the others or after them
+replicate-snoc : (k : ℕ) (x : Float) (l : List Float) → replicate k x ++ x ∷ l ≡ x ∷ replicate k x ++ l
+replicate-snoc zero x l = refl
+replicate-snoc (suc k) x l = ap {B = List Float} (λ r. x ∷ r) (replicate-snoc k x l)
+
+-- the first k entries cleared: k zeros, then the rest
+cleared-front : (k : ℕ) (a : List Float) → k ≤ length a → cleared 0 k a ≡ replicate k plusZero ++ drop k a
+unfolding cleared
+cleared-front zero a h = sym (turns-none 0 _ a)
+cleared-front (suc k) a h =
+    turns-suc 0 _ k a zero-le
+    ∙ ap (λ (l : List Float). set l (0 + k) plusZero) (cleared-front k a (omega arith) ∙ ap (λ (l : List Float). replicate k plusZero ++ l) (drop-cons a k nan (omega arith)))
+    ∙ set-at (replicate k plusZero) (getD a k nan) (drop (suc k) a) plusZero (0 + k) (length-replicate k plusZero ∙ omega arith)
+    ∙ replicate-snoc k plusZero (drop (suc k) a)
+
+-- all entries cleared
+pub cleared-all : (n : ℕ) (a : List Float) → length a ≡ n → cleared 0 n a ≡ replicate n plusZero
+cleared-all n a e = cleared-front n a (omega arith) ∙ rw (← e, drop-length) (append-nil _)
+
+-- a fill that is refused by number k
+pub fill-with : (n k : ℕ) (a : List Float) → 0 < k → fillNumber n a ≡ k → filled k a ≡ fillOutcome n a
+fill-with n k a h e = sym (fill-refused n a (λ z. omega arith) ∙ ap (λ (m : ℕ). filled m a) e)
+
+-- a fill that is accepted
+pub fill-done : (n : ℕ) (a b : List Float) → FillFit n a → b ≡ identity n → filled 0 b ≡ fillOutcome n a
+fill-done n a b f e = ap (λ (l : List Float). filled 0 l) e ∙ sym (fill-accepted n a (fill-numbers n a .accepted .1 f))
+
+-- ---- the row view
+
+-- the part from `start` on lies inside, and all is small
+pub record Room (start size len : ℕ) : Type 0 where
+  pub inside : start + size ≤ len
+  pub few : len ≤ 3072
+
+module _ (rows cols : ℕ) (u v : List Float) (side k : ℕ) where
+  -- the test is false where it is not fit
+  pub not-fit : ¬ ViewFit rows cols u v side k → false ≡ viewFit rows cols u v side k
+  not-fit h = go (viewFit rows cols u v side k) refl
+    where
+      go : (b : Bool) → viewFit rows cols u v side k ≡ b → false ≡ viewFit rows cols u v side k
+      go true t = absurd (h (view-fit rows cols u v side k .0 t))
+      go false t = sym t
+
+  -- what is answered where the test is false
+  pub no-row : viewFit rows cols u v side k ≡ false → take (0 - 0) (drop 0 u) ≡ rowViewed rows cols u v side k
+  no-row e = sym (row-refused rows cols u v side k (λ x. true≢false (sym (view-fit rows cols u v side k .1 x) ∙ e)))
+
+  module _ (fits : viewFit rows cols u v side k ≡ true) where
+    -- fit, from the test
+    found : ViewFit rows cols u v side k
+    found = view-fit rows cols u v side k .0 fits
+
+    -- on side 0 the row lies in U, and is the answer
+    pub u-room : side ≡ 0 → Room (k * rows) rows (length u)
+    u-room e = record { inside = rw (found .u-length) (row-in k rows rows (rw (eq-eqb side 0 e) at (found .row-below-size))); few = rw (found .u-length) (few rows rows (found .rows-few) (omega (arith, found .rows-few))) }
+
+    pub u-row : side ≡ 0 → take (k * rows + rows - k * rows) (drop (k * rows) u) ≡ rowViewed rows cols u v side k
+    u-row e = let d : k * rows + rows - k * rows ≡ rows = omega arith in rw d (sym (row-viewed rows cols u v side k found ∙ rw (eq-eqb side 0 e) refl))
+
+    -- on the other side in V
+    pub v-room : ¬ (side ≡ 0) → Room (k * cols) cols (length v)
+    v-room e = record { inside = rw (found .v-length) (row-in k cols cols (rw (ne-eqb side 0 e) at (found .row-below-size))); few = rw (found .v-length) (few cols cols (found .cols-few) (omega (arith, found .cols-few))) }
+
+    pub v-row : ¬ (side ≡ 0) → take (k * cols + cols - k * cols) (drop (k * cols) v) ≡ rowViewed rows cols u v side k
+    v-row e = let d : k * cols + cols - k * cols ≡ cols = omega arith in rw d (sym (row-viewed rows cols u v side k found ∙ rw (ne-eqb side 0 e) refl))
+
+  module _ (rs : 1 ≤ rows) (cs : 1 ≤ cols) (rf : rows ≤ 48) (cf : cols ≤ 48) (lu : length u ≡ rows * rows) (lv : length v ≡ cols * cols) where
+    -- sizes and lengths are fit: side and row are left
+    made : side ≤ 1 → k < pick (eqb side 0) rows cols → ViewFit rows cols u v side k
+    made s b = record { rows-some = rs; cols-some = cs; rows-few = rf; cols-few = cf; u-length = lu; v-length = lv; side-known = s; row-below-size = b }
+
+    -- on side 0 the row's test is left
+    pub fit-u : side ≡ 0 → ltb k rows ≡ viewFit rows cols u v side k
+    fit-u e = go (ltb k rows) refl
+      where
+        go : (b : Bool) → ltb k rows ≡ b → b ≡ viewFit rows cols u v side k
+        go true t = sym (view-fit rows cols u v side k .1 (made (omega arith) (rw (eq-eqb side 0 e) (ltb-true k rows t))))
+        go false t = not-fit (λ x. let h = rw (eq-eqb side 0 e) at (x .row-below-size) in omega (arith, ltb-false k rows t, h))
+
+    -- and on side 1
+    pub fit-v : side ≡ 1 → ltb k cols ≡ viewFit rows cols u v side k
+    fit-v e = go (ltb k cols) refl (ne-eqb side 0 (λ z. omega arith))
+      where
+        go : (b : Bool) → ltb k cols ≡ b → eqb side 0 ≡ false → b ≡ viewFit rows cols u v side k
+        go true t f = sym (view-fit rows cols u v side k .1 (made (omega arith) (rw f (ltb-true k cols t))))
+        go false t f = not-fit (λ x. let h = rw f at (x .row-below-size) in omega (arith, ltb-false k cols t, h))

@@ -1,0 +1,37 @@
+// The identity fill (svd/primitives.rs), which a caller runs on U and V before the accumulating call.
+use crate::householder::clear;
+ghost use mathlib.Core.Path.{_≡_};
+ghost use Prim.Native.Nat.{_*_, _≤_};
+ghost use lib.ListN.{replicate};
+ghost use Rattle.method.specs.Floats.{plusZero};
+ghost use Rattle.method.specs.Outcome.{identity, filled, fillOutcome};
+
+// 1 down the diagonal of n x n zeros.
+fn ones(a: &mut [f64], n: usize)
+    requires { ⌜ (n ≤ 48) × (now a ≡ replicate (n * n) plusZero) ⌝ }
+    ensures { λ _. ⌜ now (a .exit) ≡ identity n ⌝ }
+{
+    for i in 0..n {
+        let at = i * n + i;
+        a[at] = 1.0;
+    }
+}
+
+// Fills a with the identity of n rows and n columns. Answers 0, or the number of a refusal, which
+// writes nothing: 1 where n is 0, 2 where n is above 48, 4 where a has another length than n x n.
+pub fn identity_flat(a: &mut [f64], n: usize) -> usize
+    ensures { λ r. ⌜ filled r (now (a .exit)) ≡ fillOutcome n (now (a .entry)) ⌝ }
+{
+    if n == 0 {
+        return 1;
+    }
+    if n > 48 {
+        return 2;
+    }
+    if a.len() != n * n {
+        return 4;
+    }
+    clear(a, 0, n * n);
+    ones(a, n);
+    0
+}
