@@ -9,37 +9,37 @@ use Rattle.svd.proofs.view.row_view.Statement.{statement}
 use Rattle.svd.proofs.view.row_view.Tie as tie
 
 returns : tie.Need-returns
-returns c = no-row _ _ _ _ _ _ (sym (c .before .before .view-fit .ensures) ∙ not-true _ (c .before .if1 .taken))
+returns c = no-row (c .before .before .before .before .before .args .rows) (c .before .before .before .before .before .args .cols) (c .before .before .before .before .before .args .u .now) (c .before .before .before .before .before .args .v .now) (c .before .before .before .before .before .args .side) (c .before .before .before .before .before .args .row) (sym (c .before .before .view-fit .ensures) ∙ not-true _ (c .before .if1 .taken))
 
 mul-start : tie.Need-mul-start
-mul-start c = let r = u-room _ _ _ _ _ _ (sym (c .before .before .view-fit .ensures) ∙ not-false _ (c .before .if1 .left)) (c .if2 .taken) in record { fits = omega (arith, r .inside, r .few) }
+mul-start c = let r = u-room (c .before .before .before .before .before .args .rows) (c .before .before .before .before .before .args .cols) (c .before .before .before .before .before .args .u .now) (c .before .before .before .before .before .args .v .now) (c .before .before .before .before .before .args .side) (c .before .before .before .before .before .args .row) (sym (c .before .before .view-fit .ensures) ∙ not-false _ (c .before .if1 .left)) (c .if2 .taken) in record { fits = omega (arith, r .inside, r .few) }
 
 add-end : tie.Need-add-end
-add-end c = let r = u-room _ _ _ _ _ _ (sym (c .before .before .view-fit .ensures) ∙ not-false _ (c .before .if1 .left)) (c .if2 .taken) in omega (arith, r .inside, r .few)
+add-end c = let r = u-room (c .before .before .before .before .before .args .rows) (c .before .before .before .before .before .args .cols) (c .before .before .before .before .before .args .u .now) (c .before .before .before .before .before .args .v .now) (c .before .before .before .before .before .args .side) (c .before .before .before .before .before .args .row) (sym (c .before .before .view-fit .ensures) ∙ not-false _ (c .before .if1 .left)) (c .if2 .taken) in omega (arith, r .inside, r .few)
 
 mul-result : tie.Need-mul-result
-mul-result c = let r = u-room _ _ _ _ _ _ (sym (c .before .before .view-fit .ensures) ∙ not-false _ (c .before .if1 .left)) (c .if2 .taken) in omega (arith, r .inside, r .few)
+mul-result c = let r = u-room (c .before .before .before .before .before .args .rows) (c .before .before .before .before .before .args .cols) (c .before .before .before .before .before .args .u .now) (c .before .before .before .before .before .args .v .now) (c .before .before .before .before .before .args .side) (c .before .before .before .before .before .args .row) (sym (c .before .before .view-fit .ensures) ∙ not-false _ (c .before .if1 .left)) (c .if2 .taken) in omega (arith, r .inside, r .few)
 
 part-result-end-2 : tie.Need-part-result-end-2
-part-result-end-2 c = let r = u-room _ _ _ _ _ _ (sym (c .before .before .view-fit .ensures) ∙ not-false _ (c .before .if1 .left)) (c .if2 .taken) in omega (arith, r .inside, r .few)
+part-result-end-2 c = let r = u-room (c .before .before .before .before .before .args .rows) (c .before .before .before .before .before .args .cols) (c .before .before .before .before .before .args .u .now) (c .before .before .before .before .before .args .v .now) (c .before .before .before .before .before .args .side) (c .before .before .before .before .before .args .row) (sym (c .before .before .view-fit .ensures) ∙ not-false _ (c .before .if1 .left)) (c .if2 .taken) in omega (arith, r .inside, r .few)
 
 returns-2 : tie.Need-returns-2
-returns-2 c = u-row _ _ _ _ _ _ (sym (c .before .before .before .view-fit .ensures) ∙ not-false _ (c .before .before .if1 .left)) (c .before .if2 .taken)
+returns-2 c = u-row (c .before .before .before .before .before .before .args .rows) (c .before .before .before .before .before .before .args .cols) (c .before .before .before .before .before .before .args .u .now) (c .before .before .before .before .before .before .args .v .now) (c .before .before .before .before .before .before .args .side) (c .before .before .before .before .before .before .args .row) (sym (c .before .before .before .view-fit .ensures) ∙ not-false _ (c .before .before .if1 .left)) (c .before .if2 .taken)
 
 mul-start-2 : tie.Need-mul-start-2
-mul-start-2 c = let r = v-room _ _ _ _ _ _ (sym (c .before .before .view-fit .ensures) ∙ not-false _ (c .before .if1 .left)) (c .if2 .left) in record { fits = omega (arith, r .inside, r .few) }
+mul-start-2 c = let r = v-room (c .before .before .before .before .before .args .rows) (c .before .before .before .before .before .args .cols) (c .before .before .before .before .before .args .u .now) (c .before .before .before .before .before .args .v .now) (c .before .before .before .before .before .args .side) (c .before .before .before .before .before .args .row) (sym (c .before .before .view-fit .ensures) ∙ not-false _ (c .before .if1 .left)) (c .if2 .left) in record { fits = omega (arith, r .inside, r .few) }
 
 add-end-2 : tie.Need-add-end-2
-add-end-2 c = let r = v-room _ _ _ _ _ _ (sym (c .before .before .view-fit .ensures) ∙ not-false _ (c .before .if1 .left)) (c .if2 .left) in omega (arith, r .inside, r .few)
+add-end-2 c = let r = v-room (c .before .before .before .before .before .args .rows) (c .before .before .before .before .before .args .cols) (c .before .before .before .before .before .args .u .now) (c .before .before .before .before .before .args .v .now) (c .before .before .before .before .before .args .side) (c .before .before .before .before .before .args .row) (sym (c .before .before .view-fit .ensures) ∙ not-false _ (c .before .if1 .left)) (c .if2 .left) in omega (arith, r .inside, r .few)
 
 mul-result-2 : tie.Need-mul-result-2
-mul-result-2 c = let r = v-room _ _ _ _ _ _ (sym (c .before .before .view-fit .ensures) ∙ not-false _ (c .before .if1 .left)) (c .if2 .left) in omega (arith, r .inside, r .few)
+mul-result-2 c = let r = v-room (c .before .before .before .before .before .args .rows) (c .before .before .before .before .before .args .cols) (c .before .before .before .before .before .args .u .now) (c .before .before .before .before .before .args .v .now) (c .before .before .before .before .before .args .side) (c .before .before .before .before .before .args .row) (sym (c .before .before .view-fit .ensures) ∙ not-false _ (c .before .if1 .left)) (c .if2 .left) in omega (arith, r .inside, r .few)
 
 part-result-end-3 : tie.Need-part-result-end-3
-part-result-end-3 c = let r = v-room _ _ _ _ _ _ (sym (c .before .before .view-fit .ensures) ∙ not-false _ (c .before .if1 .left)) (c .if2 .left) in omega (arith, r .inside, r .few)
+part-result-end-3 c = let r = v-room (c .before .before .before .before .before .args .rows) (c .before .before .before .before .before .args .cols) (c .before .before .before .before .before .args .u .now) (c .before .before .before .before .before .args .v .now) (c .before .before .before .before .before .args .side) (c .before .before .before .before .before .args .row) (sym (c .before .before .view-fit .ensures) ∙ not-false _ (c .before .if1 .left)) (c .if2 .left) in omega (arith, r .inside, r .few)
 
 returns-3 : tie.Need-returns-3
-returns-3 c = v-row _ _ _ _ _ _ (sym (c .before .before .before .view-fit .ensures) ∙ not-false _ (c .before .before .if1 .left)) (c .before .if2 .left)
+returns-3 c = v-row (c .before .before .before .before .before .before .args .rows) (c .before .before .before .before .before .before .args .cols) (c .before .before .before .before .before .before .args .u .now) (c .before .before .before .before .before .before .args .v .now) (c .before .before .before .before .before .before .args .side) (c .before .before .before .before .before .before .args .row) (sym (c .before .before .before .view-fit .ensures) ∙ not-false _ (c .before .before .if1 .left)) (c .before .if2 .left)
 
 pub row-view-spec : {M : Type 1} → statement M
 row-view-spec = tie.close (tie.spec (λ c κs. search needs) (λ c. search needs) (λ c. search needs) (λ c. search needs) returns mul-start add-end mul-result (λ c. search needs) (λ c. search needs) part-result-end-2 returns-2 mul-start-2 add-end-2 mul-result-2 (λ c. search needs) (λ c. search needs) part-result-end-3 returns-3)
