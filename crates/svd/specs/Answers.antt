@@ -1,0 +1,97 @@
+-- Any two answers that a public call's promise allows are equal. Assumes nothing.
+use mathlib.Core.Path.{_≡_, refl, sym, ap, _∙_}
+use mathlib.Core.List.{List, []}
+use Prim.Native.Nat.{ℕ}
+use lib.Ieee.{Float, binary64}
+use Rattle.method.specs.Work.{Work, work}
+use Rattle.method.specs.Outcome as Outcome
+use Rattle.method.specs.Outcome.{Outcome, Filled, outcomeOf, fullOutcome, plainOutcome, filled, fillOutcome, rowViewed}
+use Rattle.svd.specs.declared.report.Report.{Report}
+use Rattle.svd.specs.declared.report.Word.{Word}
+use Rattle.svd.specs.declared.report.Word.the-variants.{None, Settled, Stopped}
+use Rattle.svd.specs.declared.settings.Settings.{Settings}
+use Rattle.svd.specs.Values.{settingsOf, wordOf, reportOf}
+
+-- ---- the report
+
+-- the word is told by the method's word
+abbrev fromWord : Outcome.Word → Word
+fromWord Outcome.none = None
+fromWord Outcome.settled = Settled
+fromWord Outcome.stopped = Stopped
+
+from-word : (w : Word) → fromWord (wordOf w) ≡ w
+from-word None = refl
+from-word Settled = refl
+from-word Stopped = refl
+
+-- the report by the method's report
+abbrev fromReport : Outcome.Report → Report
+fromReport r =
+    record {
+      number = r .number;
+      place = r .place;
+      word = fromWord (r .word);
+      passes = r .passes;
+      sweeps = r .sweeps;
+      drops = r .drops;
+      range = r .range;
+    }
+
+-- r with another word
+abbrev worded : Report → Word → Report
+worded r w = record { number = r .number; place = r .place; word = w; passes = r .passes; sweeps = r .sweeps; drops = r .drops; range = r .range }
+
+from-report : (r : Report) → fromReport (reportOf r) ≡ r
+from-report r = ap (worded r) (from-word (r .word))
+
+-- so two reports that say the same are the same
+pub report-one : (r r′ : Report) → reportOf r ≡ reportOf r′ → r ≡ r′
+report-one r r′ e = sym (from-report r) ∙ ap fromReport e ∙ from-report r′
+
+-- ---- the two drivers
+
+pub record SameAnswer (r r′ : Report) (b b′ u u′ v v′ : List Float) : Type 0 where
+  pub report : r ≡ r′
+  pub matrix : b ≡ b′
+  pub left : u ≡ u′
+  pub right : v ≡ v′
+
+-- two outcomes that are one
+answers-one :
+    (o : Outcome) (r r′ : Report) (b b′ u u′ v v′ : List Float) →
+    outcomeOf (reportOf r) (work b u v) ≡ o → outcomeOf (reportOf r′) (work b′ u′ v′) ≡ o → SameAnswer r r′ b b′ u u′ v v′
+answers-one o r r′ b b′ u u′ v v′ e e′ =
+    let d = e ∙ sym e′ in
+    record {
+      report = report-one r r′ (ap (λ (x : Outcome). x .report) d);
+      matrix = ap (λ (x : Outcome). x .held .matrix) d;
+      left = ap (λ (x : Outcome). x .held .u) d;
+      right = ap (λ (x : Outcome). x .held .v) d;
+    }
+
+module _ (rows cols : ℕ) (s : Settings) where
+  -- the accumulating call
+  pub full-one :
+      (b₀ u₀ v₀ : List Float) (r r′ : Report) (b b′ u u′ v v′ : List Float) →
+      outcomeOf (reportOf r) (work b u v) ≡ fullOutcome binary64 rows cols (settingsOf s) (work b₀ u₀ v₀) →
+      outcomeOf (reportOf r′) (work b′ u′ v′) ≡ fullOutcome binary64 rows cols (settingsOf s) (work b₀ u₀ v₀) → SameAnswer r r′ b b′ u u′ v v′
+  full-one b₀ u₀ v₀ = answers-one (fullOutcome binary64 rows cols (settingsOf s) (work b₀ u₀ v₀))
+
+  -- the plain call, which is lent no factors
+  pub plain-one :
+      (b₀ : List Float) (r r′ : Report) (b b′ : List Float) →
+      outcomeOf (reportOf r) (work b [] []) ≡ plainOutcome binary64 rows cols (settingsOf s) b₀ →
+      outcomeOf (reportOf r′) (work b′ [] []) ≡ plainOutcome binary64 rows cols (settingsOf s) b₀ → (r ≡ r′) × (b ≡ b′)
+  plain-one b₀ r r′ b b′ e e′ = let a = answers-one _ r r′ b b′ [] [] [] [] e e′ in (a .report, a .matrix)
+
+-- ---- the identity fill and the row view
+
+pub fill-one :
+    (n : ℕ) (a : List Float) (r r′ : ℕ) (l l′ : List Float) → filled r l ≡ fillOutcome n a → filled r′ l′ ≡ fillOutcome n a → (r ≡ r′) × (l ≡ l′)
+fill-one n a r r′ l l′ e e′ = let d = e ∙ sym e′ in (ap (λ (x : Filled). x .number) d, ap (λ (x : Filled). x .list) d)
+
+-- the entries of the view; where they lie is no part of its value
+pub view-one :
+    (rows cols : ℕ) (u v : List Float) (side k : ℕ) (l l′ : List Float) → l ≡ rowViewed rows cols u v side k → l′ ≡ rowViewed rows cols u v side k → l ≡ l′
+view-one rows cols u v side k l l′ e e′ = e ∙ sym e′
