@@ -1,12 +1,13 @@
 -- What the checks that were passed say, for the proofs of the calls. Assumes nothing.
 use mathlib.Core.Path.{_≡_, refl, sym, ap, _∙_}
 use mathlib.Core.Bool.{Bool, true, false, not, _||_}
-use mathlib.Core.List.{List}
+use mathlib.Core.List.{List, [], _∷_}
 use Prim.Native.Nat.{ℕ, _*_, _≤_, zero-le}
 use native.Mathlib.Nat.{le-refl, le-of-eq, zero-mul}
 use lib.ListN.{length}
 use lib.Ieee.{Float, binary64}
-use Rattle.method.specs.Work.{Work, packed}
+use Rattle.method.specs.Work.{Work, work, packed}
+use Rattle.method.specs.Lengths.{SameLengths, outcome-lengths}
 use Rattle.method.specs.Walk.{Walk as Counts, State, stands}
 use Rattle.method.specs.Outcome.{Settings, Report, Refusal, Outcome, outcomeOf, refused, reported, refusalOf, walkedFrom, accepted, outcome}
 use Rattle.method.specs.Outcome.Refusals.{Fit, fit, refused-outcome, accepted-outcome}
@@ -76,3 +77,18 @@ lent-whole n a h e = record { few = h; whole = le-of-eq (sym e) }
 
 pub lent-none : (n : ℕ) (a : List Float) → Lent n 0 a
 lent-none n a = record { few = zero-le; whole = rw zero-mul zero-le }
+
+-- ---- the plain call lends two empty lists of its own
+
+empty : (a : List Float) → length a ≡ 0 → a ≡ []
+empty [] e = refl
+empty (x ∷ a) e = absurd (let z : ⊥ = omega arith in z)
+
+-- and they come back empty
+pub plain-call :
+    (rows cols : ℕ) (s : Settings) (report : Report) (b b′ u′ v′ : List Float) →
+    outcomeOf report (work b′ u′ v′) ≡ outcome binary64 false rows cols s (work b [] []) →
+    outcomeOf report (work b′ [] []) ≡ outcome binary64 false rows cols s (work b [] [])
+plain-call rows cols s report b b′ u′ v′ e =
+    let l : SameLengths (work b [] []) (work b′ u′ v′) = rw (← ap (λ (o : Outcome). o .held) e) at (outcome-lengths binary64 false rows cols s (work b [] [])) in
+    rw (empty u′ (l .u), empty v′ (l .v)) at e

@@ -171,3 +171,23 @@ pub fn full_svd_decomposition(
     let walk = decompose(b, u, v, z, settings);
     Report::accepted(walk)
 }
+// The split of the table alone.
+pub fn svd_decomposition(b: &mut [f64], rows: usize, cols: usize, settings: Settings) -> Report
+    ensures { λ r. ⌜ outcomeOf (reportOf r) (work (now (b .exit)) [] []) ≡ plainOutcome binary64 rows cols (settingsOf settings) (now (b .entry)) ⌝ }
+{
+    let mut u = [0.0f64; 0];
+    let mut v = [0.0f64; 0];
+    let refusal = first_refusal(b, &u, &v, false, rows, cols, settings);
+    if refusal.number != 0 {
+        return Report::refused(refusal.number, refusal.place);
+    }
+    let z = Shape {
+        rows: rows,
+        cols: cols,
+        stride: cols,
+        urows: 0,
+        vrows: 0,
+    };
+    let walk = decompose(b, &mut u, &mut v, z, settings);
+    Report::accepted(walk)
+}
