@@ -84,3 +84,7 @@ number-most most l x e = go (number most l) refl
 pub headed-got : (r : Head) (t : Bytes) → 0 < r .count → headed r t ≡ got (take (r .count) (r .es)) (r .line) (drop (r .at) t)
 unfolding headed
 headed-got r t h = rw (headed, ne-eqb (r .count) 0 (λ z. omega arith))
+
+pub headed-bad : (r : Head) (t : Bytes) → r .count ≡ 0 → headed r t ≡ malformed (r .line)
+unfolding headed
+headed-bad r t h = rw (headed, eq-eqb (r .count) 0 h)

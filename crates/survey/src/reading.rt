@@ -1,9 +1,10 @@
 // The survey text read line by line: the contents, and a body after the other.
 ghost use mathlib.Core.Path.{_≡_};
+ghost use mathlib.Core.List.{[]};
 ghost use Prim.Native.Nat.{_+_, _*_, _<_, _≤_};
 ghost use lib.ListN.{length, take, drop};
 ghost use Rattle.survey.specs.Text.{when};
-ghost use Rattle.survey.specs.Form.{named as namedIn, entryLine, head as headIn};
+ghost use Rattle.survey.specs.Form.{named as namedIn, entryLine, contents as contentsIn, head as headIn};
 ghost use Rattle.survey.specs.Code.{orNone, rowStored, placed, bodyStored, headed};
 use crate::numerals::Number;
 use crate::numerals::find;
@@ -140,16 +141,16 @@ pub(crate) fn body(
     let mut k = 0;
     let mut j = 0;
     while j < rows {
-        let e = find(text, p, 10);
-        if e == text.len() {
+        let end = find(text, p, 10);
+        if end == text.len() {
             return Place {
                 ok: false,
                 at: 0,
                 line: n + j,
             };
         }
-        if row_line(&text[p..e], c, m, k) {
-            p = e + 1;
+        if row_line(&text[p..end], c, m, k) {
+            p = end + 1;
             k += c + 1;
             j += 1;
         } else {
@@ -167,10 +168,28 @@ pub(crate) fn body(
     }
 }
 
-// The count and the contents of a text.
-pub(crate) fn contents(text: &[u8]) -> Head
-    ensures { λ r. ⌜ (headed r (now (text .entry)) ≡ headIn 1 (now (text .entry))) × (r .at ≤ length (now (text .entry))) × (r .count ≤ 8)
-        × (0 < r .line) × (r .line ≤ 10) × (length (r .es) ≡ 8) ⌝ }
+// Says that line `line` is malformed.
+fn malformed(line: usize) -> Head
+    ensures { λ r. ⌜ (r .count ≡ 0) × (r .at ≡ 0) × (r .line ≡ line) × (length (r .es) ≡ 8) ⌝ }
+{
+    let none = Entry {
+        id: 0,
+        rows: 0,
+        cols: 0,
+    };
+    Head {
+        es: [none; 8],
+        count: 0,
+        at: 0,
+        line,
+    }
+}
+
+// The lines of the contents, `count` of them, from line 2 at `at` on.
+fn entries(text: &[u8], at: usize, count: usize) -> Head
+    requires { ⌜ (at ≤ length (now text)) × (0 < count) × (count ≤ 8) ⌝ }
+    ensures { λ r. ⌜ (headed r (now (text .entry)) ≡ contentsIn count [] 2 (drop at (now (text .entry)))) × (r .at ≤ length (now (text .entry)))
+        × (r .count ≤ 8) × (0 < r .line) × (r .line ≤ 10) × (length (r .es) ≡ 8) ⌝ }
 {
     let none = Entry {
         id: 0,
@@ -178,44 +197,16 @@ pub(crate) fn contents(text: &[u8]) -> Head
         cols: 0,
     };
     let mut es = [none; 8];
-    let f = find(text, 0, 10);
-    if f == text.len() {
-        return Head {
-            es,
-            count: 0,
-            at: 0,
-            line: 1,
-        };
-    }
-    let count = whole(&text[..f], 8) as usize;
-    if count == 0 {
-        return Head {
-            es,
-            count: 0,
-            at: 0,
-            line: 1,
-        };
-    }
-    let mut p = f + 1;
+    let mut p = at;
     let mut i = 0;
     while i < count {
         let e = find(text, p, 10);
         if e == text.len() {
-            return Head {
-                es,
-                count: 0,
-                at: 0,
-                line: i + 2,
-            };
+            return malformed(i + 2);
         }
         let x = entry_line(&text[p..e], es, i);
         if x.id == 0 {
-            return Head {
-                es,
-                count: 0,
-                at: 0,
-                line: i + 2,
-            };
+            return malformed(i + 2);
         }
         es[i] = x;
         p = e + 1;
@@ -227,4 +218,20 @@ pub(crate) fn contents(text: &[u8]) -> Head
         at: p,
         line: i + 2,
     }
+}
+
+// The count and the contents of a text.
+pub(crate) fn contents(text: &[u8]) -> Head
+    ensures { λ r. ⌜ (headed r (now (text .entry)) ≡ headIn 1 (now (text .entry))) × (r .at ≤ length (now (text .entry))) × (r .count ≤ 8)
+        × (0 < r .line) × (r .line ≤ 10) × (length (r .es) ≡ 8) ⌝ }
+{
+    let f = find(text, 0, 10);
+    if f == text.len() {
+        return malformed(1);
+    }
+    let count = whole(&text[..f], 8) as usize;
+    if count == 0 {
+        return malformed(1);
+    }
+    entries(text, f + 1, count)
 }
