@@ -1,10 +1,10 @@
 -- What the plain call at default settings can say of a survey: it accepts, or it refuses by 8 with the place of the first reading that is not finite. Its
 -- numbers have few digits. Assumes nothing.
-use mathlib.Core.Path.{_≡_, refl, sym, ap, subst, _∙_}
+use mathlib.Core.Path.{_≡_, refl, sym, subst, _∙_}
 use mathlib.Core.Bool.{Bool, true, false, true≢false, false≢true}
-use mathlib.Core.Logic.{_⊎_, inl, inr, ⊎-elim}
+use mathlib.Core.Logic.{⊎-elim}
 use mathlib.Core.List.{List, []}
-use Prim.Native.Nat.{ℕ, _+_, _-_, _*_, _<_, _≤_}
+use Prim.Native.Nat.{ℕ, _+_, _*_, _<_, _≤_}
 use native.Mathlib.Omega.{arith}
 use native.Mathlib.Nat.{mul-le-mul}
 use borrow.Author.Tests.{eqb-true, eqb-false}
@@ -13,10 +13,10 @@ use lib.Ieee.{Float, nan, binary64, ofBits, lt}
 use lib.Ieee.Scale.{finite}
 use lib.ListN.{length, getD}
 use Rattle.method.specs.Work.{Work, work}
-use Rattle.method.specs.Outcome.{Report, Outcome, Refusal, outcomeOf, refusal, refused, firstBad, refusalOf, plainOutcome, accepted, card, boundFit, floorFit}
+use Rattle.method.specs.Outcome.{Report, Outcome, Refusal, outcomeOf, refusal, refused, refusalOf, plainOutcome, accepted}
 use Rattle.method.specs.Defaults.{defaults, defaultTolerance, defaultAbsolute, defaultFloor}
-use Rattle.method.specs.Outcome.Reports.{True, accepted-true, card-most}
-use Rattle.method.specs.Outcome.Refusals.{FirstBadAt, BadReading, NoSize, TooLarge, WrongMatrix, WrongU, WrongV, OverLimit, UnfitBounds, Past, numbers, firstBad-at, place-eight, place-other, refused-outcome, accepted-outcome, outcome-number}
+use Rattle.method.specs.Outcome.Reports.{accepted-true, card-most}
+use Rattle.method.specs.Outcome.Refusals.{FirstBadAt, BadReading, NoSize, TooLarge, OverLimit, UnfitBounds, Past, numbers, firstBad-at, place-eight, place-other, refused-outcome, accepted-outcome}
 use Rattle.method.specs.Lengths.{outcome-lengths}
 use Rattle.survey.specs.Code.{Small}
 

@@ -1,16 +1,14 @@
 -- Laws of the bodies, as the proofs of the code use them. Assumes nothing.
-use mathlib.Core.Path.{_≡_, refl, sym, ap, subst, _∙_}
-use mathlib.Core.Bool.{Bool, true, false, _&&_, not}
+use mathlib.Core.Path.{_≡_, refl, sym, ap, _∙_}
 use mathlib.Core.Option.{Option, none, some}
-use mathlib.Core.List.{List, [], _∷_, _++_, append-assoc}
-use Prim.Native.Nat.{ℕ, zero, suc, _+_, _-_, _*_, _^_, _/_, _%_, _<_, _≤_, zero-le}
-use native.Mathlib.Numerals.{add-one}
+use mathlib.Core.List.{List, [], _∷_, _++_}
+use Prim.Native.Nat.{ℕ, zero, suc, _+_, _-_, _*_, _<_, _≤_}
 use native.Mathlib.Omega.{arith}
 use native.Mathlib.Nat.{suc-mul}
 use lib.Ieee.{Float, binary64, ofBits}
-use lib.ListN.{length, getD, set, take, drop, length-set, length-append, length-drop}
-use lib.Seq.{drop-cons, sets, drop-length, drop-drop, take-suc}
-use Rattle.survey.specs.Text.{Bytes, LF, space, _>>=_, when, cut, pattern}
+use lib.ListN.{length, take, drop}
+use lib.Seq.{sets}
+use Rattle.survey.specs.Text.{Bytes, LF, space, _>>=_, cut, pattern}
 use Rattle.survey.specs.Form.{rowLine, short, Got, malformed, got, line, andThen, body}
 use Rattle.survey.specs.Code.{run, rowStored, bodyInto, bodyStored}
 use Rattle.survey.specs.Digits.{sets-append}

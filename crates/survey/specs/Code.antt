@@ -1,21 +1,21 @@
 -- The definitions as the code goes through them: by positions in the bytes. Definitions only.
 use mathlib.Core.Path.{_≡_}
-use mathlib.Core.Bool.{Bool, true, false, _&&_, not}
+use mathlib.Core.Bool.{true, false}
 use mathlib.Core.Option.{Option, none, some}
-use mathlib.Core.List.{List, [], _∷_, _++_}
-use Prim.Native.Nat.{ℕ, zero, suc, _+_, _-_, _*_, _<_}
-use lib.Dec.{ltb, leb, eqb}
-use lib.ListN.{length, getD, set, take, drop}
+use mathlib.Core.List.{List, [], _∷_}
+use Prim.Native.Nat.{ℕ, zero, suc, _+_, _<_}
+use lib.Dec.{ltb, eqb}
+use lib.ListN.{length, set, take, drop}
 use lib.Seq.{sets}
 use lib.Ieee.{Float, binary64, ofBits}
 use Rattle.method.specs.Outcome.{Report}
 use Rattle.survey.specs.declared.reading.Entry.{Entry}
 use Rattle.survey.specs.declared.numerals.Number.{Number}
 use Rattle.survey.specs.declared.numerals.Number.the-variants.{Is, Not}
-use Rattle.survey.specs.Text.{Bytes, LF, space, _>>=_, when, cut, number, pattern}
+use Rattle.survey.specs.Text.{Bytes, space, _>>=_, cut, number, pattern}
 use Rattle.survey.specs.declared.reading.Place.{Place}
 use Rattle.survey.specs.declared.reading.Head.{Head}
-use Rattle.survey.specs.Form.{rowLine, entryLine, Got, malformed, got, line, andThen, body, contents, head, Survey}
+use Rattle.survey.specs.Form.{rowLine, Got, malformed, got, line, andThen, body, Survey}
 
 abbrev pub numberOf : Option ℕ → Number
 numberOf none = Not

@@ -1,6 +1,6 @@
 -- 01's own example, whole, by computing; and the same text without its last LF. Assumes nothing.
 use mathlib.Core.Path.{_≡_, refl}
-use mathlib.Core.List.{List, [], _∷_, _++_}
+use mathlib.Core.List.{[], _∷_, _++_}
 use lib.Ieee.{neg, add, sub, mul, div, lt, eq, isNan, ofBits, toBits}
 use Rattle.method.specs.Floats.{magnitude, signOf, smaller, larger}
 use Rattle.method.specs.Root.{squareRoot}

@@ -1,11 +1,11 @@
 -- The survey text: its lines, and for any bytes the surveys that are complete before the first malformed line, with that line's number.
 -- Definitions only.
-use mathlib.Core.Bool.{Bool, true, false, _&&_, not}
+use mathlib.Core.Bool.{Bool, true, false, not}
 use mathlib.Core.Option.{Option, none, some}
 use mathlib.Core.List.{List, [], _∷_, _++_}
-use Prim.Native.Nat.{ℕ, zero, suc, _+_, _-_, _*_}
-use lib.Dec.{ltb, leb, eqb}
-use lib.ListN.{length, getD}
+use Prim.Native.Nat.{ℕ, zero, suc, _+_, _-_}
+use lib.Dec.{leb, eqb}
+use lib.ListN.{length}
 use lib.Ieee.{Float, binary64, ofBits}
 use Rattle.survey.specs.declared.reading.Entry.{Entry}
 use Rattle.survey.specs.Text.{Bytes, LF, space, _>>=_, when, cut, number, pattern}

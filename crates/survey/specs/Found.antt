@@ -1,5 +1,5 @@
 -- What was read, was read on the way: from a reading to its parts, and the ranges that its numbers are held to. Assumes nothing.
-use mathlib.Core.Path.{_≡_, refl, sym, ap, subst, _∙_}
+use mathlib.Core.Path.{_≡_, refl, subst}
 use mathlib.Core.Bool.{Bool, true, false, _&&_, not}
 use mathlib.Core.Option.{Option, none, some}
 use mathlib.Core.List.{List}
@@ -9,8 +9,8 @@ use borrow.Author.Tests.{leb-true, le-leb}
 use lib.Dec.{leb}
 use lib.ListN.{length}
 use Rattle.survey.specs.declared.reading.Entry.{Entry}
-use Rattle.survey.specs.Text.{Bytes, LF, space, _>>=_, when, cut, decimal, number}
-use Rattle.survey.specs.Form.{named, entryLine, Got, malformed, got, line, andThen, short}
+use Rattle.survey.specs.Text.{Bytes, space, _>>=_, when, cut, decimal, number}
+use Rattle.survey.specs.Form.{named, entryLine, line, short}
 
 pub bind-some : {A B : Type 0} (o : Option A) (f : A → Option B) (b : B) → (o >>= f) ≡ some b → (a : A) × (o ≡ some a) × (f a ≡ some b)
 unfolding _>>=_

@@ -1,22 +1,20 @@
 -- Laws of the count and the contents. Assumes nothing.
-use mathlib.Core.Path.{_≡_, refl, sym, ap, subst, _∙_}
-use mathlib.Core.Bool.{Bool, true, false, _&&_, not}
+use mathlib.Core.Path.{_≡_, refl, ap}
 use mathlib.Core.Option.{Option, none, some}
-use mathlib.Core.List.{List, [], _∷_, _++_, append-assoc}
-use Prim.Native.Nat.{ℕ, zero, suc, _+_, _-_, _*_, _<_, _≤_, zero-le}
+use mathlib.Core.List.{List, [], _∷_, _++_}
+use Prim.Native.Nat.{ℕ, suc, _+_, _-_, _<_, _≤_}
 use native.Mathlib.Numerals.{add-one}
 use native.Mathlib.Omega.{arith}
-use borrow.Author.Tests.{eq-eqb, ne-eqb, leb-true, eqb-true}
-use lib.Dec.{ltb, leb, eqb}
-use lib.ListN.{length, getD, set, take, drop, length-set, length-append, length-drop}
+use borrow.Author.Tests.{eq-eqb, ne-eqb}
+use lib.ListN.{length, set, take, drop}
 use lib.Seq.{take-suc-set}
 use Rattle.survey.specs.declared.reading.Entry.{Entry}
-use Rattle.survey.specs.Text.{Bytes, LF, space, _>>=_, when, cut, decimal, number}
-use Rattle.survey.specs.Form.{named, entryLine, countLine, Got, malformed, got, line, andThen, contents, head}
+use Rattle.survey.specs.Text.{Bytes, LF, number}
+use Rattle.survey.specs.Form.{entryLine, countLine, malformed, got, line, andThen, contents, head}
 use Rattle.survey.specs.declared.reading.Head.{Head}
 use Rattle.survey.specs.Code.{run, orZero, orNone, headed}
 use Rattle.survey.specs.Lines.{number-pos}
-use Rattle.survey.specs.Found.{number-range, InRange, entry-range}
+use Rattle.survey.specs.Found.{number-range, entry-range}
 use Rattle.survey.specs.LineSize.{count-size, entry-size}
 use Rattle.survey.specs.Bodies.{line-none, line-bad, line-got}
 

@@ -1,18 +1,18 @@
 -- How many bytes the lines have: a count 1, an entry at most 11, a row 17 a reading less 1. So none has more than 815. Assumes nothing.
-use mathlib.Core.Path.{_≡_, refl, sym, ap, subst, _∙_}
+use mathlib.Core.Path.{_≡_, refl, ap}
 use mathlib.Core.Bool.{Bool, true, false, _&&_, not}
-use mathlib.Core.Option.{Option, none, some}
-use mathlib.Core.List.{List, [], _∷_, _++_}
-use Prim.Native.Nat.{ℕ, zero, suc, _+_, _-_, _*_, _^_, _<_, _≤_}
+use mathlib.Core.Option.{none, some}
+use mathlib.Core.List.{List, [], _∷_}
+use Prim.Native.Nat.{ℕ, zero, suc, _+_, _*_, _^_, _<_, _≤_}
 use native.Mathlib.Omega.{arith}
-use native.Mathlib.Nat.{suc-mul, zero-mul, mul-le-mul, mul-le-mul-right, pow-le-pow-right}
-use borrow.Author.Tests.{ltb-true, ltb-false, eqb-true, eqb-false, leb-true, leb-false}
+use native.Mathlib.Nat.{mul-le-mul-right, pow-le-pow-right}
+use borrow.Author.Tests.{ltb-true, ltb-false, eqb-true, eqb-false}
 use lib.Dec.{ltb, leb, eqb}
-use lib.Ieee.{Float, binary64, ofBits}
-use lib.ListN.{length, getD, length-append}
+use lib.Ieee.{Float}
+use lib.ListN.{length}
 use Rattle.survey.specs.declared.reading.Entry.{Entry}
-use Rattle.survey.specs.Text.{Bytes, LF, space, _>>=_, when, cut, worth, value, decimal, number, pattern}
-use Rattle.survey.specs.Form.{countLine, entryLine, rowLine, named}
+use Rattle.survey.specs.Text.{Bytes, space, _>>=_, when, cut, worth, value, number, pattern}
+use Rattle.survey.specs.Form.{countLine, entryLine, rowLine}
 use Rattle.survey.specs.Code.{orZero}
 use Rattle.survey.specs.Lines.{value-least, worth-first, number-zero, number-value}
 use Rattle.survey.specs.Found.{bind-some, when-some, number-range}

@@ -1,21 +1,21 @@
 -- Laws of the lines, as the proofs of the code use them. Assumes nothing.
-use mathlib.Core.Path.{_≡_, refl, sym, ap, subst, _∙_}
+use mathlib.Core.Path.{_≡_, refl, sym, ap, _∙_}
 use mathlib.Core.Bool.{Bool, true, false, _&&_, not}
 use mathlib.Core.Option.{Option, none, some}
-use mathlib.Core.List.{List, [], _∷_, _++_, append-assoc}
-use Prim.Native.Nat.{ℕ, zero, suc, _+_, _-_, _*_, _^_, _/_, _%_, _<_, _≤_, zero-le}
+use mathlib.Core.List.{List, [], _∷_}
+use Prim.Native.Nat.{ℕ, zero, suc, _+_, _-_, _*_, _^_, _<_, _≤_}
 use native.Mathlib.Numerals.{add-one}
 use native.Mathlib.Omega.{arith}
-use native.Mathlib.Nat.{pow-zero, pow-suc, pow-succ', mul-le-mul-left, mul-le-mul-right, pow-le-pow-right, mul-assoc, mul-comm}
-use borrow.Author.Tests.{le-ltb, lt-ltb, le-leb, lt-leb, eq-eqb, ne-eqb, ltb-true, ltb-false, eqb-true, eqb-false, leb-true, leb-false}
+use native.Mathlib.Nat.{pow-zero, pow-succ', mul-le-mul-right, pow-le-pow-right, mul-assoc}
+use borrow.Author.Tests.{le-ltb, lt-ltb, le-leb, lt-leb, eq-eqb, ne-eqb, ltb-true, ltb-false, leb-true}
 use lib.Dec.{ltb, leb, eqb}
 use lib.Ieee.{Float, binary64, ofBits}
-use lib.ListN.{length, getD, set, take, drop, length-set, length-append, length-drop}
-use lib.Seq.{drop-cons, sets, drop-length, drop-drop, take-suc, length-take-le, getD-take, take-all}
+use lib.ListN.{length, getD, set, take, drop, length-drop}
+use lib.Seq.{drop-cons, sets, drop-length, drop-drop, length-take-le, getD-take, take-all}
 use Rattle.survey.specs.declared.reading.Entry.{Entry}
 use Rattle.survey.specs.declared.numerals.Number.{Number}
 use Rattle.survey.specs.declared.numerals.Number.the-variants.{Is, Not}
-use Rattle.survey.specs.Text.{Bytes, LF, space, _>>=_, when, cut, worth, value, decimal, number, pattern, digit, digits}
+use Rattle.survey.specs.Text.{Bytes, space, _>>=_, when, cut, worth, value, decimal, number, pattern, digit, digits}
 use Rattle.survey.specs.Form.{named, entryLine, rowLine}
 use Rattle.survey.specs.Code.{run, numberOf, orZero, orNone, cutAt, rowInto, rowStored}
 

@@ -1,6 +1,6 @@
 -- What `split` prints of any bytes: each survey that is complete before the first malformed line, by the plain call's outcome at default settings, and
 -- then that line's number. Definitions only.
-use mathlib.Core.Bool.{Bool, true, false}
+use mathlib.Core.Bool.{true, false}
 use mathlib.Core.List.{List, [], _∷_, _++_, map}
 use Prim.Native.Nat.{ℕ, zero, suc}
 use lib.Dec.{eqb}

@@ -1,26 +1,25 @@
 -- What is written reads back. Assumes nothing.
-use mathlib.Core.Path.{_≡_, refl, sym, ap, subst, _∙_}
-use mathlib.Core.Bool.{Bool, true, false, _&&_, not}
-use mathlib.Core.Option.{Option, none, some}
+use mathlib.Core.Path.{_≡_, refl, sym, ap, _∙_}
+use mathlib.Core.Bool.{Bool, true, false, not}
+use mathlib.Core.Option.{none, some}
 use mathlib.Core.List.{List, [], _∷_, _++_, append-assoc, append-nil, map}
 use Prim.Native.Nat.{ℕ, zero, suc, _+_, _-_, _*_, _/_, _%_, _^_, _<_, _≤_}
-use native.Mathlib.Numerals.{add-one}
 use native.Mathlib.Omega.{arith}
 use native.Mathlib.Nat.{pow-zero, pow-suc, div-add-mod', div-lt-iff-lt-mul, mod-lt, mul-assoc, zero-mul, suc-mul}
-use borrow.Author.Tests.{lt-ltb, le-ltb, eq-eqb, ne-eqb, ltb-true, ltb-false, le-leb}
-use lib.Dec.{T, ltb, leb, eqb}
+use borrow.Author.Tests.{lt-ltb, eq-eqb, ne-eqb, ltb-true, ltb-false, le-leb}
+use lib.Dec.{T, ltb}
 use lib.Ieee.{Float, binary64, fits, ofBits, toBits}
 use lib.Ieee.Bits.{ofBits-toBits, toBits-lt, ofBits-fits}
-use lib.ListN.{length, getD, take, drop, length-append, length-drop, length-map, take-append-drop}
+use lib.ListN.{length, getD, take, drop, length-drop, length-map, take-append-drop}
 use lib.Seq.{length-take-le}
 use Rattle.survey.specs.Text.{Bytes, LF, space, _>>=_, when, cut, worth, value, decimal, number, pattern, digit, digits, placesBy, shown, ending, lineText}
 use Rattle.survey.specs.declared.reading.Entry.{Entry}
-use Rattle.survey.specs.Form.{countLine, rowLine, entryLine, named, Got, malformed, got, line, andThen, contents, body, bodies, head, reading, Survey, Reading}
+use Rattle.survey.specs.Form.{countLine, rowLine, entryLine, named, malformed, got, line, andThen, contents, body, bodies, head, reading, Survey}
 use Rattle.survey.specs.Found.{InRange, short-some}
 use Rattle.survey.specs.LineSize.{row-short, entry-size, count-size}
 use Rattle.survey.specs.Whole.{All}
 use Rattle.survey.specs.Print.{hex, rowText, rowsText}
-use Rattle.survey.specs.Digits.{worth-decimal, worth-letter, digit-low, digit-high, length-digits}
+use Rattle.survey.specs.Digits.{worth-decimal, worth-letter, digit-low, digit-high}
 use Rattle.survey.specs.Lines.{pattern-is, number-value}
 use Rattle.survey.specs.Writing.{length-hex, places-next, places-end}
 

@@ -1,10 +1,10 @@
 -- Texts: bytes, numerals, and lines of fields one space apart, each ended by LF; how they are read and how they are written. Definitions only.
-use mathlib.Core.Bool.{Bool, true, false, _&&_, not}
+use mathlib.Core.Bool.{Bool, true, false, _&&_}
 use mathlib.Core.Option.{Option, none, some}
 use mathlib.Core.List.{List, [], _∷_, _++_}
 use Prim.Native.Nat.{ℕ, zero, suc, _+_, _-_, _*_, _/_, _%_}
 use lib.Dec.{ltb, leb, eqb}
-use lib.ListN.{length, getD}
+use lib.ListN.{length}
 
 abbrev pub Bytes : Type 0
 Bytes = List ℕ

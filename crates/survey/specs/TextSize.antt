@@ -1,19 +1,16 @@
 -- A text that is well-formed has at most 313,442 bytes. Assumes nothing.
-use mathlib.Core.Path.{_≡_, refl, sym, ap, subst, _∙_}
-use mathlib.Core.Bool.{Bool, true, false, _&&_, not}
+use mathlib.Core.Path.{_≡_, refl, ap, _∙_}
 use mathlib.Core.Option.{Option, none, some}
 use mathlib.Core.List.{List, [], _∷_, _++_}
-use Prim.Native.Nat.{ℕ, zero, suc, _+_, _-_, _*_, _^_, _<_, _≤_}
+use Prim.Native.Nat.{ℕ, zero, suc, _+_, _-_, _*_, _<_, _≤_}
 use native.Mathlib.Omega.{arith}
-use native.Mathlib.Nat.{suc-mul, zero-mul, mul-le-mul, mul-le-mul-right, pow-le-pow-right}
-use borrow.Author.Tests.{ltb-true, ltb-false, eqb-true, eqb-false, leb-true, leb-false}
-use lib.Dec.{ltb, leb, eqb}
-use lib.Ieee.{Float, binary64, ofBits}
-use lib.ListN.{length, getD, length-append}
+use native.Mathlib.Nat.{suc-mul, zero-mul}
+use lib.Ieee.{Float}
+use lib.ListN.{length, length-append}
 use Rattle.survey.specs.declared.reading.Entry.{Entry}
-use Rattle.survey.specs.Text.{Bytes, LF, space, _>>=_, when, cut, worth, value, decimal, number, pattern}
-use Rattle.survey.specs.Form.{countLine, entryLine, rowLine, named, short, Got, malformed, got, line, andThen, contents, head, body, bodies, reading, Survey, Reading}
-use Rattle.survey.specs.Found.{bind-some, when-some, number-range, InRange, short-was}
+use Rattle.survey.specs.Text.{Bytes, LF, _>>=_, cut, number}
+use Rattle.survey.specs.Form.{countLine, entryLine, rowLine, short, Got, malformed, got, line, andThen, contents, head, body, bodies, reading}
+use Rattle.survey.specs.Found.{number-range, short-was}
 use Rattle.survey.specs.LineSize.{cut-size, count-size, entry-size, row-size}
 use Rattle.survey.specs.Whole.{All, contents-all, area}
 

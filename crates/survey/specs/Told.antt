@@ -1,15 +1,15 @@
 -- What the promise of `split_text` settles, and what it says of a survey. Assumes nothing.
-use mathlib.Core.Path.{_≡_, refl, sym, ap, _∙_}
-use mathlib.Core.List.{List, [], _∷_, _++_}
-use Prim.Native.Nat.{ℕ, _+_, _*_, _<_, _≤_}
+use mathlib.Core.Path.{_≡_, sym, ap, _∙_}
+use mathlib.Core.List.{[], _∷_, _++_}
+use Prim.Native.Nat.{ℕ, _+_, _<_, _≤_}
 use native.Mathlib.Omega.{arith}
-use lib.Ieee.{Float, nan, binary64}
+use lib.Ieee.{nan, binary64}
 use lib.Ieee.Scale.{finite}
 use mathlib.Core.Bool.{true, false}
 use lib.ListN.{length, take, drop, getD}
 use lib.Seq.{sets, sets-eq, take-at, drop-at}
 use Rattle.method.specs.Work.{work}
-use Rattle.method.specs.Outcome.{Outcome, outcomeOf, refusal, refused, plainOutcome, accepted}
+use Rattle.method.specs.Outcome.{Outcome, outcomeOf, refusal, refused, accepted}
 use Rattle.method.specs.Defaults.{defaults}
 use Rattle.method.specs.Outcome.Refusals.{FirstBadAt, accepted-number}
 use Rattle.survey.specs.Text.{Bytes, shown, lineText}

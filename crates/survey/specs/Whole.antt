@@ -1,25 +1,22 @@
 -- Laws of the whole text, as the proof of `split` uses them. Assumes nothing.
 use mathlib.Core.Path.{_≡_, refl, sym, ap, subst, _∙_}
-use mathlib.Core.Bool.{Bool, true, false, _&&_, not}
-use mathlib.Core.Option.{Option, none, some}
+use mathlib.Core.Bool.{true, false}
 use mathlib.Core.List.{List, [], _∷_, _++_, append-assoc}
-use Prim.Native.Nat.{ℕ, zero, suc, _+_, _-_, _*_, _<_, _≤_, zero-le}
+use Prim.Native.Nat.{ℕ, zero, suc, _+_, _-_, _*_, _<_, _≤_}
 use native.Mathlib.Numerals.{add-one}
 use native.Mathlib.Omega.{arith}
 use native.Mathlib.Nat.{suc-mul, zero-mul, mul-le-mul}
-use borrow.Author.Tests.{eq-eqb, ne-eqb}
-use lib.Dec.{eqb}
+use borrow.Author.Tests.{eq-eqb}
 use lib.Ieee.{Float}
-use lib.ListN.{length, getD, set, take, drop, length-append, length-drop}
+use lib.ListN.{length, getD, take, drop, length-append}
 use lib.Seq.{drop-cons, sets, sets-eq, length-sets, drop-length, length-take-le, getD-take, take-at}
 use Rattle.survey.specs.declared.reading.Entry.{Entry}
 use Rattle.survey.specs.declared.reading.Place.{Place}
 use Rattle.survey.specs.declared.reading.Head.{Head}
-use Rattle.survey.specs.Text.{Bytes, LF, space, shown}
-use Rattle.survey.specs.Form.{entryLine, rowLine, Got, malformed, got, line, andThen, contents, countLine, head, body, bodies, reading, Survey, Reading}
+use Rattle.survey.specs.Text.{Bytes}
+use Rattle.survey.specs.Form.{entryLine, rowLine, Got, malformed, got, line, andThen, contents, countLine, head, body, bodies, reading}
 use Rattle.survey.specs.Print.{surveyText, surveysText, refusalText, printed, split}
 use Rattle.survey.specs.Code.{placed, bodyStored, headed, surveyOf}
-use Rattle.survey.specs.Digits.{sets-append}
 use Rattle.survey.specs.Lines.{zeros}
 use Rattle.survey.specs.Bodies.{line-rule, row-length}
 use Rattle.survey.specs.Found.{InRange, entry-range}

@@ -1,18 +1,18 @@
 -- Laws of the writing: how long each text is, and its stores one after the other. Assumes nothing.
-use mathlib.Core.Path.{_≡_, refl, sym, ap, subst, _∙_}
-use mathlib.Core.Bool.{Bool, true, false, _&&_, not}
-use mathlib.Core.List.{List, [], _∷_, _++_, append-assoc, map}
-use Prim.Native.Nat.{ℕ, zero, suc, _+_, _-_, _*_, _/_, _%_, _^_, _<_, _≤_, zero-le}
+use mathlib.Core.Path.{_≡_, refl, sym, ap, _∙_}
+use mathlib.Core.Bool.{Bool, true, false}
+use mathlib.Core.List.{List, [], _∷_, _++_, map}
+use Prim.Native.Nat.{ℕ, zero, suc, _+_, _-_, _*_, _/_, _^_, _<_, _≤_}
 use native.Mathlib.Numerals.{add-one}
 use native.Mathlib.Omega.{arith}
-use native.Mathlib.Nat.{mul-le-mul-right, pow-suc, div-lt-iff-lt-mul, div-lt-self, suc-mul, zero-mul}
+use native.Mathlib.Nat.{mul-le-mul-right, pow-suc, div-lt-iff-lt-mul, suc-mul, zero-mul}
 use borrow.Author.Tests.{lt-ltb, le-ltb, eq-eqb, ne-eqb, ltb-true, ltb-false}
-use lib.Dec.{ltb, leb, eqb}
-use lib.Ieee.{Float, nan, binary64, ofBits, toBits}
-use lib.ListN.{length, getD, set, take, drop, length-set, length-append, length-drop, take-append-drop}
-use lib.Seq.{drop-cons, sets, drop-length, drop-drop, take-suc, length-take-le, take-append-le, drop-append-le}
-use Rattle.method.specs.Outcome.{Report, Outcome}
-use Rattle.survey.specs.Text.{Bytes, LF, space, digit, digits, placesBy, shown, ending, lineText}
+use lib.Dec.{ltb}
+use lib.Ieee.{Float, nan, binary64, toBits}
+use lib.ListN.{length, getD, set, take, drop, length-append, length-drop, take-append-drop}
+use lib.Seq.{drop-cons, sets, drop-length, drop-drop, length-take-le, take-append-le, drop-append-le}
+use Rattle.method.specs.Outcome.{Outcome}
+use Rattle.survey.specs.Text.{Bytes, LF, space, digits, placesBy, shown, ending, lineText}
 use Rattle.survey.specs.Print.{hex, rowText, rowsText, refusedWord, reportText, refusedText, outcomeText, refusalText}
 use Rattle.survey.specs.Code.{Written}
 use Rattle.survey.specs.Digits.{sets-append, length-digits}

@@ -7,7 +7,7 @@ use native.Mathlib.Omega.{arith}
 use borrow.Author.Needs.{needs}
 use lib.ListN.{drop, take, length, length-set}
 use Rattle.survey.specs.Heads.{headed-got, headed-bad, contents-none, contents-bad, contents-next, contents-end}
-use Rattle.survey.specs.Form.{contents, Got, malformed}
+use Rattle.survey.specs.Form.{contents, malformed}
 use Rattle.survey.proofs.reading.entries.Statement.{statement}
 use Rattle.survey.proofs.reading.entries.Tie as tie
 
