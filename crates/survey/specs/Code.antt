@@ -1,5 +1,4 @@
 -- The definitions as the code goes through them: by positions in the bytes. Definitions only.
-use mathlib.Core.Path.{_≡_}
 use mathlib.Core.Bool.{true, false}
 use mathlib.Core.Option.{Option, none, some}
 use mathlib.Core.List.{List, [], _∷_}
@@ -71,11 +70,6 @@ abbrev pub surveyOf : Entry → List Float → Survey
 surveyOf e xs = record { entry = e; readings = xs }
 
 -- ---- writing
-
--- `out₁` is `out` with the bytes s from `at` on, and nothing else changed; the bytes end at `end`
-pub record Written (out : Bytes) (at : ℕ) (s : Bytes) (out₁ : Bytes) (end : ℕ) : Type 0 where
-  pub stored : out₁ ≡ sets out at s
-  pub ends : end ≡ at + length s
 
 -- the numbers of a report that have at most 6 digits
 pub record Small (r : Report) : Type 0 where

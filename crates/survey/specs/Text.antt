@@ -1,10 +1,12 @@
 -- Texts: bytes, numerals, and lines of fields one space apart, each ended by LF; how they are read and how they are written. Definitions only.
+use mathlib.Core.Path.{_≡_}
 use mathlib.Core.Bool.{Bool, true, false, _&&_}
 use mathlib.Core.Option.{Option, none, some}
 use mathlib.Core.List.{List, [], _∷_, _++_}
 use Prim.Native.Nat.{ℕ, zero, suc, _+_, _-_, _*_, _/_, _%_}
 use lib.Dec.{ltb, leb, eqb}
 use lib.ListN.{length}
+use lib.Seq.{sets}
 
 abbrev pub Bytes : Type 0
 Bytes = List ℕ
@@ -88,3 +90,8 @@ ending (w ∷ ws) = space
 unfoldable pub lineText : List Bytes → Bytes
 lineText [] = []
 lineText (w ∷ ws) = w ++ (ending ws ∷ lineText ws)
+
+-- `out₁` is `out` with the bytes s from `at` on, and nothing else changed; the bytes end at `end`
+pub record Written (out : Bytes) (at : ℕ) (s : Bytes) (out₁ : Bytes) (end : ℕ) : Type 0 where
+  pub stored : out₁ ≡ sets out at s
+  pub ends : end ≡ at + length s

@@ -12,9 +12,8 @@ use lib.Ieee.{Float, nan, binary64, toBits}
 use lib.ListN.{length, getD, set, take, drop, length-append, length-drop, take-append-drop}
 use lib.Seq.{drop-cons, sets, drop-length, drop-drop, length-take-le, take-append-le, drop-append-le}
 use Rattle.method.specs.Outcome.{Outcome}
-use Rattle.survey.specs.Text.{Bytes, LF, space, digits, placesBy, shown, ending, lineText}
+use Rattle.survey.specs.Text.{Bytes, LF, space, digits, placesBy, shown, ending, lineText, Written}
 use Rattle.survey.specs.Print.{hex, rowText, rowsText, refusedWord, reportText, refusedText, outcomeText, refusalText}
-use Rattle.survey.specs.Code.{Written}
 use Rattle.survey.specs.Digits.{sets-append, length-digits}
 
 -- ---- how many digits

@@ -9,9 +9,9 @@ use lib.ListN.{length, getD, take, length-append}
 use lib.Seq.{sets}
 use lib.Ieee.{Float}
 use Rattle.survey.specs.declared.reading.Entry.{Entry}
-use Rattle.survey.specs.Text.{Bytes}
+use Rattle.survey.specs.Text.{Bytes, Written}
 use Rattle.survey.specs.Print.{split, surveyText}
-use Rattle.survey.specs.Code.{surveyOf, Written}
+use Rattle.survey.specs.Code.{surveyOf}
 use Rattle.survey.specs.Digits.{sets-append}
 use Rattle.survey.specs.Lines.{zeros}
 use Rattle.survey.specs.Found.{InRange}
