@@ -14,6 +14,7 @@ pub mod Answer
 pub mod Writing
 pub mod Whole
 pub mod TextSize
+pub mod Room
 pub mod Prefix
 pub mod Round
 pub mod Told
