@@ -9,12 +9,12 @@ use lib.Ieee.{Float, binary64, ofBits}
 use lib.ListN.{length, take, drop}
 use lib.Seq.{sets}
 use Rattle.survey.specs.Text.{Bytes, LF, space, _>>=_, cut, pattern}
-use Rattle.survey.specs.Form.{rowLine, short, Got, malformed, got, line, andThen, body}
+use Rattle.survey.specs.Form.{rowLine, Got, malformed, got, line, andThen, body}
 use Rattle.survey.specs.Code.{run, rowStored, bodyInto, bodyStored}
 use Rattle.survey.specs.Digits.{sets-append}
 use Rattle.survey.specs.Lines.{cut-some, cut-none}
-use Rattle.survey.specs.Found.{short-some, short-none, short-was}
-use Rattle.survey.specs.LineSize.{row-short}
+use Rattle.survey.specs.Found.{bind-some, short-some, short-none}
+use Rattle.survey.specs.LineSize.{row-short, line-size}
 
 -- ---- a line by its rule
 
@@ -36,28 +36,19 @@ module _ {A : Type 0} (rule : Bytes → Option A) (n : ℕ) (t : Bytes) (p e : �
 
 -- a row of c + 1 readings has c + 1 readings
 pub row-length : (c : ℕ) (l : Bytes) (xs : List Float) → rowLine c l ≡ some xs → length xs ≡ c + 1
-unfolding rowLine _>>=_
-row-length zero l xs e = go (pattern l) e
-  where
-    go : (o : Option ℕ) → (o >>= λ p. some (ofBits binary64 p ∷ [])) ≡ some xs → length xs ≡ 1
-    go none q = absurd (let z : _≡_ {A = ℕ} 0 1 = cc in omega arith)
-    go (some p) q = let z : ofBits binary64 p ∷ [] ≡ xs = cc in rw (← z)
-row-length (suc c) l xs e = go (cut space l) e (λ l₁ ys. row-length c l₁ ys)
-  where
-    tail : (b : ℕ) (l₁ : Bytes) (o : Option (List Float)) → rowLine c l₁ ≡ o → (o >>= λ ys. some (ofBits binary64 b ∷ ys)) ≡ some xs
-        → ((l₁ : Bytes) (ys : List Float) → rowLine c l₁ ≡ some ys → length ys ≡ c + 1) → length xs ≡ suc c + 1
-    tail b l₁ none h q ih = absurd (let z : _≡_ {A = ℕ} 0 1 = cc in omega arith)
-    tail b l₁ (some ys) h q ih = let z : ofBits binary64 b ∷ ys ≡ xs = cc in rw (← z) (omega (arith, ih l₁ ys h))
-
-    mid : (o : Option ℕ) (l₁ : Bytes) → (o >>= λ p. rowLine c l₁ >>= λ ys. some (ofBits binary64 p ∷ ys)) ≡ some xs
-        → ((l₁ : Bytes) (ys : List Float) → rowLine c l₁ ≡ some ys → length ys ≡ c + 1) → length xs ≡ suc c + 1
-    mid none l₁ q ih = absurd (let z : _≡_ {A = ℕ} 0 1 = cc in omega arith)
-    mid (some b) l₁ q ih = tail b l₁ (rowLine c l₁) refl q ih
-
-    go : (o : Option (Bytes × Bytes)) → (o >>= λ r. pattern (r .0) >>= λ p. rowLine c (r .1) >>= λ ys. some (ofBits binary64 p ∷ ys)) ≡ some xs
-        → ((l₁ : Bytes) (ys : List Float) → rowLine c l₁ ≡ some ys → length ys ≡ c + 1) → length xs ≡ suc c + 1
-    go none q ih = absurd (let z : _≡_ {A = ℕ} 0 1 = cc in omega arith)
-    go (some r) q ih = mid (pattern (r .0)) (r .1) q ih
+unfolding rowLine
+row-length zero l xs e =
+    let p = bind-some (pattern l) _ xs e in
+    let q : some (ofBits binary64 (p .0) ∷ []) ≡ some xs = p .2 in
+    let z : ofBits binary64 (p .0) ∷ [] ≡ xs = cc in
+    rw (← z)
+row-length (suc c) l xs e =
+    let p₁ = bind-some (cut space l) _ xs e in
+    let p₂ = bind-some (pattern (p₁ .0 .0)) _ xs (p₁ .2) in
+    let p₃ = bind-some (rowLine c (p₁ .0 .1)) _ xs (p₂ .2) in
+    let q : some (ofBits binary64 (p₂ .0) ∷ p₃ .0) ≡ some xs = p₃ .2 in
+    let z : ofBits binary64 (p₂ .0) ∷ p₃ .0 ≡ xs = cc in
+    rw (← z) (omega (arith, row-length c (p₁ .0 .1) (p₃ .0) (p₃ .1)))
 
 -- what `row_line` answers
 pub row-yes : (c : ℕ) (l : Bytes) (m m₁ : List Float) (at : ℕ) → some m₁ ≡ rowStored c l m at → (xs : List Float) × (rowLine c l ≡ some xs) × (m₁ ≡ sets m at xs)
@@ -78,22 +69,6 @@ row-no c l m at e = go (rowLine c l) refl
 
 -- ---- a body
 
--- what a line gave, its rule gave
-pub line-rule : {A : Type 0} (rule : Bytes → Option A) (n : ℕ) (t : Bytes) (a : A) (n₁ : ℕ) (t₁ : Bytes) → line rule n t ≡ got a n₁ t₁ → (l : Bytes) × (rule l ≡ some a)
-unfolding line
-line-rule {A} rule n t a n₁ t₁ e = go (cut LF t) refl
-  where
-    mid : (p : Bytes × Bytes) (o : Option A) → cut LF t ≡ some p → (short (p .0) >>= rule) ≡ o → (l : Bytes) × (rule l ≡ some a)
-    mid p none h k = let q : malformed n ≡ got a n₁ t₁ = rw (line, h, k) at e in absurd (let z : _≡_ {A = ℕ} 0 1 = cc in omega arith)
-    mid p (some b) h k =
-        let q : got b (n + 1) (p .1) ≡ got a n₁ t₁ = rw (line, h, k) at e in
-        let y : b ≡ a = cc in
-        (p .0, short-was rule (p .0) a (rw y at k) .0)
-
-    go : (o : Option (Bytes × Bytes)) → cut LF t ≡ o → (l : Bytes) × (rule l ≡ some a)
-    go none h = let q : malformed n ≡ got a n₁ t₁ = rw (line, h) at e in absurd (let z : _≡_ {A = ℕ} 0 1 = cc in omega arith)
-    go (some p) h = mid p (short (p .0) >>= rule) h refl
-
 -- row by row is all at once
 pub body-stored : (r c n : ℕ) (t : Bytes) (m : List Float) (at : ℕ) → bodyInto r c n t m at ≡ bodyStored r c n t m at
 unfolding bodyInto bodyStored body andThen
@@ -111,7 +86,7 @@ body-stored (suc r) c n t m at = go (line (rowLine c) n t) refl (λ n₁ t₁ m�
         ≡ andThen (andThen g (λ xs n₁ t₁. andThen (body r c n₁ t₁) λ ys. got (xs ++ ys))) (λ zs. got (sets m at zs))
     go (malformed k) h ih = refl
     go (got xs n₁ t₁) h ih =
-        let q = line-rule (rowLine c) n t xs n₁ t₁ h in
+        let q = line-size (rowLine c) n t xs n₁ t₁ h in
         ih n₁ t₁ (sets m at xs) ∙ tail xs (row-length c (q .0) xs (q .1)) (body r c n₁ t₁)
 
 -- a turn of the code's loop, j rows done

@@ -10,7 +10,7 @@ use lib.Dec.{leb}
 use lib.ListN.{length}
 use Rattle.survey.specs.declared.reading.Entry.{Entry}
 use Rattle.survey.specs.Text.{Bytes, space, _>>=_, when, cut, decimal, number}
-use Rattle.survey.specs.Form.{named, entryLine, line, short}
+use Rattle.survey.specs.Form.{named, entryLine, short, Got, malformed, got, line, andThen}
 
 pub bind-some : {A B : Type 0} (o : Option A) (f : A → Option B) (b : B) → (o >>= f) ≡ some b → (a : A) × (o ≡ some a) × (f a ≡ some b)
 unfolding _>>=_
@@ -82,3 +82,10 @@ short-was rule l a e =
     let p = bind-some (when (leb (length l) 815) l) rule a e in
     let q = when-some (leb (length l) 815) l (p .0) (p .1) in
     (rw (q .1) (p .2), leb-true (length l) 815 (q .0))
+
+-- what was read by two steps, the first of them read
+pub then-got : {A B : Type 0} (g : Got A) (f : A → ℕ → Bytes → Got B) (b : B) (n : ℕ) (t : Bytes) → andThen g f ≡ got b n t
+    → (a : A) × (n₁ : ℕ) × (t₁ : Bytes) × (g ≡ got a n₁ t₁) × (f a n₁ t₁ ≡ got b n t)
+unfolding andThen
+then-got (malformed k) f b n t e = absurd (let z : _≡_ {A = ℕ} 0 1 = cc in omega arith)
+then-got (got a n₁ t₁) f b n t e = (a, n₁, t₁, refl, e)

@@ -36,6 +36,15 @@ value-least base (b ∷ t) v w e = go (ltb (worth b) base) refl (λ h. value-lea
     go true x ih = let h : value base (v * base + worth b) t ≡ some w = rw (value, x) at e in more h (ih h)
     go false x ih = let h : none ≡ some w = rw (value, x) at e in let z : _≡_ {A = ℕ} 0 1 = cc in absurd (let y : 0 ≡ 1 = z in omega arith)
 
+-- what a `Number` says
+pub is-some : (o : Option ℕ) (v : ℕ) → Is v ≡ numberOf o → o ≡ some v
+is-some none v x = absurd (let z : _≡_ {A = ℕ} 0 1 = cc in omega arith)
+is-some (some n) v x = cc
+
+pub is-none : (o : Option ℕ) → Not ≡ numberOf o → o ≡ none
+is-none none x = refl
+is-none (some n) x = absurd (let z : _≡_ {A = ℕ} 0 1 = cc in omega arith)
+
 -- ---- a number
 
 module _ (most : ℕ) where
@@ -69,27 +78,15 @@ module _ (most : ℕ) where
   module _ (l : Bytes) (g : length l ≡ 0 → ⊥) (h : getD l 0 0 ≡ 48 → ⊥) where
     pub number-is : (v : ℕ) → Is v ≡ numberOf (value 10 0 l) → v ≤ most → v ≡ orZero (number most l)
     unfolding _>>=_
-    number-is v e k = let q : value 10 0 l ≡ some v = is-some (value 10 0 l) e in rw (number-value l g h, q) (kept v k)
-      where
-        is-some : (o : Option ℕ) → Is v ≡ numberOf o → o ≡ some v
-        is-some none x = absurd (let z : _≡_ {A = ℕ} 0 1 = cc in omega arith)
-        is-some (some n) x = cc
+    number-is v e k = rw (number-value l g h, is-some (value 10 0 l) v e) (kept v k)
 
     pub number-over : (v : ℕ) → Is v ≡ numberOf (value 10 0 l) → most < v → 0 ≡ orZero (number most l)
     unfolding _>>=_
-    number-over v e k = let q : value 10 0 l ≡ some v = is-some (value 10 0 l) e in rw (number-value l g h, q) (over v k)
-      where
-        is-some : (o : Option ℕ) → Is v ≡ numberOf o → o ≡ some v
-        is-some none x = absurd (let z : _≡_ {A = ℕ} 0 1 = cc in omega arith)
-        is-some (some n) x = cc
+    number-over v e k = rw (number-value l g h, is-some (value 10 0 l) v e) (over v k)
 
     pub number-not : Not ≡ numberOf (value 10 0 l) → 0 ≡ orZero (number most l)
     unfolding _>>=_
-    number-not e = let q : value 10 0 l ≡ none = is-none (value 10 0 l) e in rw (number-value l g h, q)
-      where
-        is-none : (o : Option ℕ) → Not ≡ numberOf o → o ≡ none
-        is-none none x = refl
-        is-none (some n) x = absurd (let z : _≡_ {A = ℕ} 0 1 = cc in omega arith)
+    number-not e = rw (number-value l g h, is-none (value 10 0 l) e)
 
 -- a first digit that is not 0 is worth at least 1
 pub worth-first : (b : ℕ) → (b ≡ 48 → ⊥) → 1 ≤ worth b
@@ -196,15 +193,6 @@ module _ (stop : ℕ) (l : Bytes) (p e : ℕ) (f : e ≡ p + run stop (drop p l)
       let r : run stop (drop p l) ≡ e - p = omega arith in
       let g : length (drop p l) ≤ e - p = simp length-drop (omega arith) in
       cut-run stop (drop p l) ∙ ap (cutAt (drop p l)) r ∙ rw (cutAt, le-ltb (e - p) (length (drop p l)) g)
-
--- what a `Number` says
-pub is-some : (o : Option ℕ) (v : ℕ) → Is v ≡ numberOf o → o ≡ some v
-is-some none v x = absurd (let z : _≡_ {A = ℕ} 0 1 = cc in omega arith)
-is-some (some n) v x = cc
-
-pub is-none : (o : Option ℕ) → Not ≡ numberOf o → o ≡ none
-is-none none x = refl
-is-none (some n) x = absurd (let z : _≡_ {A = ℕ} 0 1 = cc in omega arith)
 
 -- ---- a line of readings
 

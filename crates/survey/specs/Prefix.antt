@@ -15,9 +15,9 @@ use Rattle.survey.specs.Text.{Bytes, LF, _>>=_, when, cut}
 use Rattle.survey.specs.Form.{countLine, entryLine, rowLine, short, Got, malformed, got, line, andThen, contents, head, body, bodies, reading}
 use Rattle.survey.specs.Print.{printed, split}
 use Rattle.survey.specs.Found.{number-range}
-use Rattle.survey.specs.LineSize.{count-size}
+use Rattle.survey.specs.LineSize.{line-size, count-size}
 use Rattle.survey.specs.Whole.{All, contents-all, area}
-use Rattle.survey.specs.TextSize.{line-size, contents-size, body-size}
+use Rattle.survey.specs.TextSize.{contents-size, body-size}
 
 -- what was read, with more after it
 unfoldable pub further : {A : Type 0} → Bytes → Got A → Got A

@@ -20,7 +20,8 @@ use Rattle.survey.specs.Found.{InRange, number-range}
 use Rattle.survey.specs.Writing.{length-shown, places-most, length-rows, outcome-accepted, outcome-refused}
 use Rattle.survey.specs.Answer.{Table, small, same-size}
 use Rattle.survey.specs.Whole.{All, contents-all, body-length, area}
-use Rattle.survey.specs.TextSize.{line-size, contents-size}
+use Rattle.survey.specs.LineSize.{line-size}
+use Rattle.survey.specs.TextSize.{contents-size}
 
 -- ---- lines of short fields
 

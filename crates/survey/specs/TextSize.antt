@@ -1,5 +1,5 @@
 -- A text that is well-formed has at most 313,442 bytes. Assumes nothing.
-use mathlib.Core.Path.{_≡_, refl, ap, _∙_}
+use mathlib.Core.Path.{_≡_, refl, ap}
 use mathlib.Core.Option.{Option, none, some}
 use mathlib.Core.List.{List, [], _∷_, _++_}
 use Prim.Native.Nat.{ℕ, zero, suc, _+_, _-_, _*_, _<_, _≤_}
@@ -10,35 +10,11 @@ use lib.ListN.{length, length-append}
 use Rattle.survey.specs.declared.reading.Entry.{Entry}
 use Rattle.survey.specs.Text.{Bytes, LF, _>>=_, cut, number}
 use Rattle.survey.specs.Form.{countLine, entryLine, rowLine, short, Got, malformed, got, line, andThen, contents, head, body, bodies, reading}
-use Rattle.survey.specs.Found.{number-range, short-was}
-use Rattle.survey.specs.LineSize.{cut-size, count-size, entry-size, row-size}
+use Rattle.survey.specs.Found.{number-range, then-got}
+use Rattle.survey.specs.LineSize.{count-size, entry-size, row-size, line-size}
 use Rattle.survey.specs.Whole.{All, contents-all, area}
 
 -- ---- line by line
-
-pub line-size : {A : Type 0} (rule : Bytes → Option A) (n : ℕ) (t : Bytes) (a : A) (n₁ : ℕ) (t₁ : Bytes) → line rule n t ≡ got a n₁ t₁
-    → (l : Bytes) × (rule l ≡ some a) × (length t ≡ length l + 1 + length t₁) × (n₁ ≡ n + 1) × (length l ≤ 815)
-unfolding line
-line-size {A} rule n t a n₁ t₁ e = go (cut LF t) refl
-  where
-    mid : (p : Bytes × Bytes) (o : Option A) → cut LF t ≡ some p → (short (p .0) >>= rule) ≡ o → (l : Bytes) × (rule l ≡ some a) × (length t ≡ length l + 1 + length t₁) × (n₁ ≡ n + 1) × (length l ≤ 815)
-    mid p none h k = let q : malformed n ≡ got a n₁ t₁ = rw (line, h, k) at e in absurd (let z : _≡_ {A = ℕ} 0 1 = cc in omega arith)
-    mid p (some b) h k =
-        let q : got b (n + 1) (p .1) ≡ got a n₁ t₁ = rw (line, h, k) at e in
-        let z : p .1 ≡ t₁ = cc in
-        let y : b ≡ a = cc in
-        let s = short-was rule (p .0) a (rw y at k) in
-        (p .0, s .0, cut-size LF t p h ∙ ap (λ (y : Bytes). length (p .0) + 1 + length y) z, cc, s .1)
-
-    go : (o : Option (Bytes × Bytes)) → cut LF t ≡ o → (l : Bytes) × (rule l ≡ some a) × (length t ≡ length l + 1 + length t₁) × (n₁ ≡ n + 1) × (length l ≤ 815)
-    go none h = let q : malformed n ≡ got a n₁ t₁ = rw (line, h) at e in absurd (let z : _≡_ {A = ℕ} 0 1 = cc in omega arith)
-    go (some p) h = mid p (short (p .0) >>= rule) h refl
-
-pub then-got : {A B : Type 0} (g : Got A) (f : A → ℕ → Bytes → Got B) (b : B) (n : ℕ) (t : Bytes) → andThen g f ≡ got b n t
-    → (a : A) × (n₁ : ℕ) × (t₁ : Bytes) × (g ≡ got a n₁ t₁) × (f a n₁ t₁ ≡ got b n t)
-unfolding andThen
-then-got (malformed k) f b n t e = absurd (let z : _≡_ {A = ℕ} 0 1 = cc in omega arith)
-then-got (got a n₁ t₁) f b n t e = (a, n₁, t₁, refl, e)
 
 pub contents-size : (k : ℕ) (es : List Entry) (n : ℕ) (t : Bytes) (es₁ : List Entry) (n₁ : ℕ) (t₁ : Bytes) → contents k es n t ≡ got es₁ n₁ t₁
     → (length t ≤ 12 * k + length t₁) × (length es₁ ≡ length es + k) × (n ≤ n₁)

@@ -18,8 +18,9 @@ use Rattle.survey.specs.Form.{entryLine, rowLine, Got, malformed, got, l
 use Rattle.survey.specs.Print.{surveyText, surveysText, refusalText, printed, split}
 use Rattle.survey.specs.Code.{placed, bodyStored, headed, surveyOf}
 use Rattle.survey.specs.Lines.{zeros}
-use Rattle.survey.specs.Bodies.{line-rule, row-length}
-use Rattle.survey.specs.Found.{InRange, entry-range}
+use Rattle.survey.specs.LineSize.{line-size}
+use Rattle.survey.specs.Bodies.{row-length}
+use Rattle.survey.specs.Found.{InRange, entry-range, then-got}
 use Rattle.survey.specs.Heads.{headed-got}
 
 -- ---- every entry of the contents is in range
@@ -40,44 +41,30 @@ all-at (e ∷ es) (suc i) a h = all-at es i (a .1) (omega arith)
 pub contents-all : (k : ℕ) (es : List Entry) (n : ℕ) (t : Bytes) (es₁ : List Entry) (n₁ : ℕ) (t₁ : Bytes) → contents k es n t ≡ got es₁ n₁ t₁ → All es → All es₁
 unfolding contents andThen
 contents-all zero es n t es₁ n₁ t₁ e a = let q : es ≡ es₁ = cc in subst All q a
-contents-all (suc k) es n t es₁ n₁ t₁ e a = go (line (entryLine es) n t) refl (λ x m s. contents-all k (es ++ (x ∷ [])) m s es₁ n₁ t₁)
-  where
-    go : (g : Got Entry) → line (entryLine es) n t ≡ g
-        → ((x : Entry) (m : ℕ) (s : Bytes) → contents k (es ++ (x ∷ [])) m s ≡ got es₁ n₁ t₁ → All (es ++ (x ∷ [])) → All es₁) → All es₁
-    go (malformed m) h ih = let q : malformed m ≡ got es₁ n₁ t₁ = rw h at e in absurd (let z : _≡_ {A = ℕ} 0 1 = cc in omega arith)
-    go (got x m s) h ih =
-        let q : contents k (es ++ (x ∷ [])) m s ≡ got es₁ n₁ t₁ = rw h at e in
-        let r = line-rule (entryLine es) n t x m s h in
-        ih x m s q (all-more es x a (entry-range es (r .0) x (r .1)))
+contents-all (suc k) es n t es₁ n₁ t₁ e a =
+    let p = then-got (line (entryLine es) n t) (λ x. contents k (es ++ (x ∷ []))) es₁ n₁ t₁ e in
+    let r = line-size (entryLine es) n t (p .0) (p .1) (p .2) (p .3) in
+    contents-all k (es ++ (p .0 ∷ [])) (p .1) (p .2) es₁ n₁ t₁ (p .4) (all-more es (p .0) a (entry-range es (r .0) (p .0) (r .1)))
 
 pub head-all : (t : Bytes) (es : List Entry) (n : ℕ) (t₁ : Bytes) → head 1 t ≡ got es n t₁ → All es
 unfolding head andThen
-head-all t es n t₁ e = go (line countLine 1 t) refl
-  where
-    go : (g : Got ℕ) → line countLine 1 t ≡ g → All es
-    go (malformed m) h = let q : malformed m ≡ got es n t₁ = rw h at e in absurd (let z : _≡_ {A = ℕ} 0 1 = cc in omega arith)
-    go (got k m s) h = contents-all k [] m s es n t₁ (rw h at e) tt
+head-all t es n t₁ e =
+    let p = then-got (line countLine 1 t) (λ k. contents k []) es n t₁ e in
+    contents-all (p .0) [] (p .1) (p .2) es n t₁ (p .4) tt
 
 -- ---- a body has as many readings as it should
 
 pub body-length : (r c n : ℕ) (t : Bytes) (xs : List Float) (n₁ : ℕ) (t₁ : Bytes) → body r c n t ≡ got xs n₁ t₁ → length xs ≡ r * (c + 1)
 unfolding body andThen
 body-length zero c n t xs n₁ t₁ e = let q : [] ≡ xs = cc in omega (arith, ap length q, zero-mul (c + 1))
-body-length (suc r) c n t xs n₁ t₁ e = go (line (rowLine c) n t) refl (λ ys m s. body-length r c m s ys)
-  where
-    tail : (x : List Float) → length x ≡ c + 1 → (m : ℕ) (s : Bytes) (g : Got (List Float)) → body r c m s ≡ g → andThen g (λ ys. got (x ++ ys)) ≡ got xs n₁ t₁
-        → ((ys : List Float) (n₂ : ℕ) (t₂ : Bytes) → body r c m s ≡ got ys n₂ t₂ → length ys ≡ r * (c + 1)) → length xs ≡ suc r * (c + 1)
-    tail x l m s (malformed k) h q ih = absurd (let z : _≡_ {A = ℕ} 0 1 = cc in omega arith)
-    tail x l m s (got ys n₂ t₂) h q ih =
-        let z : x ++ ys ≡ xs = cc in
-        omega (arith, ap length z, length-append x ys, l, ih ys n₂ t₂ h, suc-mul r (c + 1))
-
-    go : (g : Got (List Float)) → line (rowLine c) n t ≡ g
-        → ((ys : List Float) (m : ℕ) (s : Bytes) (n₂ : ℕ) (t₂ : Bytes) → body r c m s ≡ got ys n₂ t₂ → length ys ≡ r * (c + 1)) → length xs ≡ suc r * (c + 1)
-    go (malformed k) h ih = let q : malformed k ≡ got xs n₁ t₁ = rw h at e in absurd (let z : _≡_ {A = ℕ} 0 1 = cc in omega arith)
-    go (got x m s) h ih =
-        let r₁ = line-rule (rowLine c) n t x m s h in
-        tail x (row-length c (r₁ .0) x (r₁ .1)) m s (body r c m s) refl (rw h at e) (λ ys n₂ t₂. ih ys m s n₂ t₂)
+body-length (suc r) c n t xs n₁ t₁ e =
+    let p = then-got (line (rowLine c) n t) (λ x m s. andThen (body r c m s) λ ys. got (x ++ ys)) xs n₁ t₁ e in
+    let q = then-got (body r c (p .1) (p .2)) (λ ys. got (p .0 ++ ys)) xs n₁ t₁ (p .4) in
+    let f : got (p .0 ++ q .0) (q .1) (q .2) ≡ got xs n₁ t₁ = q .4 in
+    let z : p .0 ++ q .0 ≡ xs = cc in
+    let l = line-size (rowLine c) n t (p .0) (p .1) (p .2) (p .3) in
+    let ih = body-length r c (p .1) (p .2) (q .0) (q .1) (q .2) (q .3) in
+    omega (arith, ap length z, length-append (p .0) (q .0), row-length c (l .0) (p .0) (l .1), ih, suc-mul r (c + 1))
 
 -- ---- what the code's body says
 
