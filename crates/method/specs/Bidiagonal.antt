@@ -1,10 +1,11 @@
 -- The bidiagonal form (document 001 and its twins in 002): columns are cleared below their heads and rows past theirs, by reflections that U
 -- and V take too. Definitions, and the cases by tau one by one. Assumes nothing.
-use mathlib.Core.Path.{_≡_}
+use mathlib.Core.Path.{_≡_, ap}
 use mathlib.Core.Bool.{Bool, true, false}
 use mathlib.Core.List.{List}
 use Prim.Native.Nat.{ℕ, _+_, _-_, _*_}
 use lib.Dec.{eqb}
+use borrow.Author.Tests.{eq-eqb, ne-eqb}
 use lib.ListN.{getD, set}
 use lib.Ieee.{Float, nan, Format, eq}
 use Rattle.method.specs.Floats.{plusZero}
@@ -81,13 +82,16 @@ abbrev pub thenZeroed : Format → Float → Shape → Bool → ℕ → Work →
 thenZeroed f floor z true k w = rowZeroed f floor z k (k + 1) w
 thenZeroed f floor z false k w = columnZeroed f floor z (k + 1) k w
 
--- One place of the diagonal after another, all but the last; then the last, where the table is not square. `c` is the smaller of rows and columns.
+-- the first n places of the diagonal, one after another
+unfoldable pub placesZeroed : Format → Float → Shape → Bool → ℕ → Work → Work
+placesZeroed f floor z upper n w = turns 0 n (λ k s. thenZeroed f floor z upper k (firstZeroed f floor z upper k s)) w
+
+-- All places but the last; then the last, where the table is not square. `c` is the smaller of rows and columns.
 unfoldable pub bidiagonal : Format → Float → Shape → Bool → ℕ → Work → Work
 bidiagonal f floor z upper c w =
-    let s = turns 0 (c - 1) (λ k s. thenZeroed f floor z upper k (firstZeroed f floor z upper k s)) w in
     elim (eqb (z .rows) (z .cols)) [
-      | true ↦ s
-      | false ↦ firstZeroed f floor z upper (c - 1) s
+      | true ↦ placesZeroed f floor z upper (c - 1) w
+      | false ↦ firstZeroed f floor z upper (c - 1) (placesZeroed f floor z upper (c - 1) w)
     ]
 
 -- ---- the cases by tau, each part as the code has it
@@ -117,11 +121,22 @@ module _ (f : Format) (floor : Float) (rows cols stride i j : ℕ) (a : List Flo
   unfolding rowMatrix
   row-moved e t = rw e (rw (rw e at t, rowMatrix))
 
-module _ (f : Format) (r : Reflection) (n kept i : ℕ) (a : List Float) where
-  pub factor-still : eq (r .tau) plusZero ≡ true → factorReflected f r n kept i a ≡ a
+module _ (f : Format) (n kept i : ℕ) (a : List Float) (r r′ : Reflection) where
+  pub factor-still : r ≡ r′ → eq (r .tau) plusZero ≡ true → a ≡ factorReflected f r′ n kept i a
   unfolding factorReflected
-  factor-still t = rw (t, factorReflected)
+  factor-still e t = rw (rw e at t, factorReflected)
 
-  pub factor-moved : eq (r .tau) plusZero ≡ false → factorReflected f r n kept i a ≡ reflectedRight f (r .vector) (r .tau) n 0 i kept (n - i) a
+  pub factor-moved : r ≡ r′ → eq (r .tau) plusZero ≡ false → reflectedRight f (r .vector) (r .tau) n 0 i kept (n - i) a ≡ factorReflected f r′ n kept i a
   unfolding factorReflected
-  factor-moved t = rw (t, factorReflected)
+  factor-moved e t = rw e (rw (rw e at t, factorReflected))
+
+-- ---- a square table, and one that is not
+
+module _ (f : Format) (floor : Float) (z : Shape) (upper : Bool) (c : ℕ) (w s : Work) (places : s ≡ placesZeroed f floor z upper (c - 1) w) where
+  pub bidiagonal-square : z .rows ≡ z .cols → s ≡ bidiagonal f floor z upper c w
+  unfolding bidiagonal
+  bidiagonal-square e = rw (eq-eqb (z .rows) (z .cols) e, bidiagonal) places
+
+  pub bidiagonal-other : (z .rows ≡ z .cols → ⊥) → firstZeroed f floor z upper (c - 1) s ≡ bidiagonal f floor z upper c w
+  unfolding bidiagonal
+  bidiagonal-other e = rw (ne-eqb (z .rows) (z .cols) e, bidiagonal) (ap (firstZeroed f floor z upper (c - 1)) places)

@@ -1,13 +1,17 @@
 -- The walk's two questions on the table (document 000 and its twins in 002): whether the last coupling of the live corner is negligible, and what one
--- sweep of rotations makes of table and factors. The upper and the lower form differ in which lines come first, and in nothing else. Definitions only.
+-- sweep of rotations makes of table and factors. The upper and the lower form differ in which lines come first, and in nothing else. Definitions, and step laws for the code. Assumes nothing.
+use mathlib.Core.Path.{_≡_, ap, _∙_}
 use mathlib.Core.Bool.{Bool, true, false, not}
 use mathlib.Core.List.{List}
 use Prim.Native.Nat.{ℕ, _+_, _-_, _*_}
-use lib.Ieee.{Float, Format, add, sub, mul, div, lt}
+use native.Mathlib.Nat.{zero-mul, add-zero}
+use lib.ListN.{getD}
+use lib.Ieee.{Float, nan, Format, add, sub, mul, div, lt}
 use Rattle.method.specs.Floats.{plusZero, two, magnitude, signOf, smaller, larger}
 use Rattle.method.specs.Root.{squareRoot}
 use Rattle.method.specs.Turns.{turns}
 use Rattle.method.specs.Work.{Work, Shape, at}
+use Rattle.method.specs.Positions.{couplingPlace}
 use Rattle.method.specs.Rotation.{Rotation, rotationOf, rowsTurned, columnsTurned}
 
 -- ---- lines: rows (true) or columns (false)
@@ -73,9 +77,58 @@ firstRotation f stride upper k a =
 abbrev pub stepped : Format → Shape → Bool → ℕ → Work → Work
 stepped f z upper k w = pushed f z (not upper) (k + 1) k 3 (pushed f z upper k k 3 w)
 
+-- the first n steps down the diagonal
+unfoldable pub steps : Format → Shape → Bool → ℕ → Work → Work
+steps f z upper n w = turns 0 n (stepped f z upper) w
+
 -- The sweep over the live corner whose last 2 x 2 starts at (k, k): columns first in the upper form, rows first in the lower.
 unfoldable pub swept : Format → Shape → Bool → ℕ → Work → Work
-swept f z upper k w =
-    pushed f z upper k k 2
-    (turns 0 k (stepped f z upper)
-    (turned f z (firstRotation f (z .stride) upper k (w .matrix)) (not upper) 0 0 2 w))
+swept f z upper k w = pushed f z upper k k 2 (steps f z upper k (turned f z (firstRotation f (z .stride) upper k (w .matrix)) (not upper) 0 0 2 w))
+
+-- ---- step by step, as the code goes
+
+module _ (f : Format) (z : Shape) (upper : Bool) (k : ℕ) (w : Work) where
+  pub stepped-is : (s t : Work) → s ≡ pushed f z upper k k 3 w → t ≡ pushed f z (not upper) (k + 1) k 3 s → t ≡ stepped f z upper k w
+  stepped-is s t es et = et ∙ ap (pushed f z (not upper) (k + 1) k 3) es
+
+  pub swept-is :
+      (g : Rotation) (s t u : Work) →
+      g ≡ firstRotation f (z .stride) upper k (w .matrix) →
+      s ≡ turned f z g (not upper) 0 0 2 w →
+      t ≡ steps f z upper k s →
+      u ≡ pushed f z upper k k 2 t →
+      u ≡ swept f z upper k w
+  unfolding swept
+  swept-is g s t u eg es et eu =
+      eu ∙ ap (pushed f z upper k k 2) (et ∙ ap (steps f z upper k) (es ∙ ap (λ (g : Rotation). turned f z g (not upper) 0 0 2 w) eg))
+
+-- the corner's last 2 x 2 by its places in the list
+module _ (f : Format) (stride : ℕ) (upper : Bool) (k : ℕ) (a : List Float) (tl bl br : ℕ) where
+  pub firstRotation-is :
+      (tr : ℕ) (shift next : Float) (g : Rotation) →
+      tl ≡ k * stride + k →
+      tr ≡ k * stride + (k + 1) →
+      bl ≡ (k + 1) * stride + k →
+      br ≡ (k + 1) * stride + (k + 1) →
+      shift ≡ singular f (getD a tl nan) (getD a tr nan) (getD a bl nan) (getD a br nan) →
+      next ≡ along (not upper) stride 1 0 a →
+      g ≡ rotationOf f (sub f (mul f (getD a 0 nan) (getD a 0 nan)) shift) (mul f (getD a 0 nan) next) →
+      g ≡ firstRotation f stride upper k a
+  firstRotation-is tr shift next g etl etr ebl ebr es en eg = rw (eg, es, en, etl, etr, ebl, ebr, zero-mul, add-zero)
+
+  pub negligible-is :
+      (tolerance absolute : Float) (e1 : ℕ) (x y e bound : Float) →
+      e1 ≡ couplingPlace upper stride k →
+      tl ≡ k * stride + k →
+      br ≡ (k + 1) * stride + (k + 1) →
+      x ≡ magnitude (getD a tl nan) →
+      y ≡ magnitude (getD a br nan) →
+      e ≡ magnitude (getD a e1 nan) →
+      bound ≡ smaller (mul f (add f x y) tolerance) absolute →
+      lt e bound ≡ negligible f tolerance absolute stride upper k a
+  unfolding negligible
+  negligible-is tolerance absolute e1 x y e bound ee et eb ex ey em eq = go upper ee
+    where
+      go : (upper : Bool) → e1 ≡ couplingPlace upper stride k → lt e bound ≡ negligible f tolerance absolute stride upper k a
+      go true ee = rw (eq, ex, ey, em, ee, et, eb)
+      go false ee = rw (eq, ex, ey, em, ee, et, eb)

@@ -7,12 +7,12 @@ use lib.Dec.{eqb}
 use lib.ListN.{length, getD, set, length-set}
 use lib.Ieee.{Float, nan, Format, eq}
 use Rattle.method.specs.Floats.{plusZero}
-use Rattle.method.specs.Turns.{turns, turns-keep}
+use Rattle.method.specs.Turns.{turns-keep}
 use Rattle.method.specs.Work.{Work, Shape, packed}
 use Rattle.method.specs.Rotation.{Rotation, rowsTurned-length, columnsTurned-length}
 use Rattle.method.specs.Reflection.{Reflection, blank, reflectionOf, reflectionOf-entries, reflectedRight-length, reflectedLeft-length}
-use Rattle.method.specs.Bidiagonal.{columnReflection, columnCopied, columnCleared, headed, columnMatrix, rowMatrix, factorReflected, columnZeroed, rowZeroed, firstZeroed, thenZeroed, bidiagonal, column-still, column-moved, row-still, row-moved, factor-still, factor-moved}
-use Rattle.method.specs.Chase.{turned, pushed, stepped, swept, firstRotation}
+use Rattle.method.specs.Bidiagonal.{columnReflection, columnCopied, columnCleared, headed, columnMatrix, rowMatrix, factorReflected, columnZeroed, rowZeroed, firstZeroed, thenZeroed, placesZeroed, bidiagonal, column-still, column-moved, row-still, row-moved, factor-still, factor-moved}
+use Rattle.method.specs.Chase.{turned, pushed, stepped, steps, swept, firstRotation}
 use Rattle.method.specs.Walk.{Walk, State, run}
 use Rattle.method.specs.Walk.Counts.{held-keeps}
 use Rattle.method.specs.Outcome.{Settings, Outcome, walkedFrom, rulesOf, isUpper, card, accepted, outcome, refusalOf}
@@ -68,8 +68,8 @@ pub factor-length : (f : Format) (r : Reflection) (n kept i : ℕ) (a : List Flo
 factor-length f r n kept i a = go (eq (r .tau) plusZero) refl
   where
     go : (t : Bool) → eq (r .tau) plusZero ≡ t → length (factorReflected f r n kept i a) ≡ length a
-    go true e = rw (factor-still f r n kept i a e) refl
-    go false e = rw (factor-moved f r n kept i a e) (reflectedRight-length f _ _ _ _ _ _ _ _)
+    go true e = rw (← factor-still f n kept i a r r refl e) refl
+    go false e = rw (← factor-moved f n kept i a r r refl e) (reflectedRight-length f _ _ _ _ _ _ _ _)
 
 module _ (f : Format) (floor : Float) (z : Shape) where
   pub columnZeroed-lengths : (i j : ℕ) (w : Work) → SameLengths w (columnZeroed f floor z i j w)
@@ -88,24 +88,18 @@ module _ (f : Format) (floor : Float) (z : Shape) where
   then-lengths true k w = rowZeroed-lengths k (k + 1) w
   then-lengths false k w = columnZeroed-lengths (k + 1) k w
 
+  pub places-lengths : (upper : Bool) (n : ℕ) (w : Work) → SameLengths w (placesZeroed f floor z upper n w)
+  unfolding placesZeroed
+  places-lengths upper n w =
+      turns-keep 0 _ (SameLengths w) (λ k s e. onward e (onward (first-lengths upper k s) (then-lengths upper k _))) n w (same w)
+
   pub bidiagonal-lengths : (upper : Bool) (c : ℕ) (w : Work) → SameLengths w (bidiagonal f floor z upper c w)
   unfolding bidiagonal
   bidiagonal-lengths upper c w = go (eqb (z .rows) (z .cols)) refl
     where
-      s : Work
-      s = turns 0 (c - 1) (λ k s. thenZeroed f floor z upper k (firstZeroed f floor z upper k s)) w
-
-      down : SameLengths w s
-      down =
-          turns-keep 0 (λ k s. thenZeroed f floor z upper k (firstZeroed f floor z upper k s)) (SameLengths w)
-          (λ k s e. onward e (onward (first-lengths upper k s) (then-lengths upper k _)))
-          (c - 1)
-          w
-          (same w)
-
       go : (t : Bool) → eqb (z .rows) (z .cols) ≡ t → SameLengths w (bidiagonal f floor z upper c w)
-      go true e = rw (e, bidiagonal) down
-      go false e = rw (e, bidiagonal) (onward down (first-lengths upper (c - 1) s))
+      go true e = rw (e, bidiagonal) (places-lengths upper (c - 1) w)
+      go false e = rw (e, bidiagonal) (onward (places-lengths upper (c - 1) w) (first-lengths upper (c - 1) _))
 
 -- ---- a sweep
 
@@ -115,16 +109,27 @@ module _ (f : Format) (z : Shape) where
   turned-lengths g true i j n w = record { matrix = rowsTurned-length f g _ i j n _; u = columnsTurned-length f g _ i 0 _ _; v = refl }
   turned-lengths g false i j n w = record { matrix = columnsTurned-length f g _ i j n _; u = refl; v = columnsTurned-length f g _ i 0 _ _ }
 
+  pub steps-lengths : (upper : Bool) (n : ℕ) (w : Work) → SameLengths w (steps f z upper n w)
+  unfolding steps
+  steps-lengths upper n w =
+      turns-keep 0 (stepped f z upper) (SameLengths w)
+      (λ l s e. onward e (onward (turned-lengths _ upper l l 3 s) (turned-lengths _ (not upper) (l + 1) l 3 _)))
+      n
+      w
+      (same w)
+
   pub swept-lengths : (upper : Bool) (k : ℕ) (w : Work) → SameLengths w (swept f z upper k w)
   unfolding swept
   swept-lengths upper k w =
-      onward
-      (turns-keep 0 (stepped f z upper) (SameLengths w)
-      (λ l s e. onward e (onward (turned-lengths _ upper l l 3 s) (turned-lengths _ (not upper) (l + 1) l 3 _)))
-      k
-      _
-      (turned-lengths (firstRotation f (z .stride) upper k (w .matrix)) (not upper) 0 0 2 w))
-      (turned-lengths _ upper k k 2 _)
+      onward (turned-lengths (firstRotation f (z .stride) upper k (w .matrix)) (not upper) 0 0 2 w)
+      (onward (steps-lengths upper k _) (turned-lengths _ upper k k 2 _))
+
+  -- the same of lists that are those of a turn, or of the steps
+  pub turned-kept : (g : Rotation) (byRow : Bool) (i j n : ℕ) (w w′ : Work) → w′ ≡ turned f z g byRow i j n w → SameLengths w w′
+  turned-kept g byRow i j n w w′ e = rw e (turned-lengths g byRow i j n w)
+
+  pub steps-kept : (upper : Bool) (n : ℕ) (w w′ : Work) → w′ ≡ steps f z upper n w → SameLengths w w′
+  steps-kept upper n w w′ e = rw e (steps-lengths upper n w)
 
 -- ---- a call
 

@@ -2,7 +2,7 @@
 -- range says: the corner whose top left is entry (k, k) for k = range - 2. Definitions, and that start and drop keep to it. Assumes nothing.
 use mathlib.Core.Path.{_≡_, refl, ap, _∙_}
 use mathlib.Core.Bool.{Bool, true, false}
-use Prim.Native.Nat.{ℕ, _+_, _-_, _*_, _≤_}
+use Prim.Native.Nat.{ℕ, _+_, _-_, _*_, _≤_, _<_}
 use native.Mathlib.Nat.{add-mul}
 use native.Mathlib.Omega.{arith}
 use Rattle.method.specs.Floats.{pick}
@@ -40,6 +40,11 @@ cornerBegun false stride c =
 -- where the coupling stands: right of (k, k) in the upper form, below it in the lower
 abbrev pub couplingPlace : Bool → ℕ → ℕ → ℕ
 couplingPlace upper stride k = pick upper (k * stride + (k + 1)) ((k + 1) * stride + k)
+
+-- it lies in the first k + 2 rows
+pub coupling-inside : (upper : Bool) (stride k : ℕ) → k + 2 ≤ stride → couplingPlace upper stride k < (k + 2) * stride
+coupling-inside true stride k h = omega arith
+coupling-inside false stride k h = omega arith
 
 -- the start over a diagonal of c entries by row and column number, with k = c - 2
 unfoldable pub cornerStart : Bool → ℕ → ℕ → Corner

@@ -1,2 +1,3 @@
 -- The code's values as the method's.
 pub mod Values
+pub mod Passes

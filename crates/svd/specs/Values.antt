@@ -1,9 +1,14 @@
 -- The code's values as the method's. Definitions only.
 use mathlib.Core.List.{List}
-use lib.Ieee.{Float}
+use Prim.Native.Nat.{ℕ, _*_, _≤_}
+use lib.ListN.{length}
+use mathlib.Core.Path.{_≡_}
+use lib.Ieee.{Float, binary64}
 use Rattle.method.specs.Rotation.{Rotation as Turn}
 use Rattle.method.specs.Reflection.{Reflection}
-use Rattle.method.specs.Work.{Shape as Sizes}
+use Rattle.method.specs.Bidiagonal.{columnReflection, headed}
+use Rattle.method.specs.Work.{Work, Shape as Sizes}
+use Rattle.method.specs.Lengths.{SameLengths}
 use Rattle.method.specs.Walk.{Walk as Counts}
 use Rattle.method.specs.Positions.{Corner}
 use Rattle.method.specs.Outcome as Outcome
@@ -57,3 +62,42 @@ reportOf r =
       drops = r .drops;
       range = r .range;
     }
+
+-- what making the reflection of column j from row i on leaves in the table and in the vector, and its tau
+pub record Taken (floor : Float) (rows stride i j : ℕ) (b b′ p : List Float) (tau : Float) : Type 0 where
+  pub entries : List Float
+  pub made : reflection entries p tau ≡ columnReflection binary64 floor rows stride i j b
+  pub table : b′ ≡ headed (reflection entries p tau) rows stride i j b
+
+-- ---- what the kernels ask of the lists they are lent
+
+-- the table lies in its list, and its sizes are small
+pub record Roomy (z : Sizes) (b : List Float) : Type 0 where
+  pub rows-few : z .rows ≤ 48
+  pub cols-few : z .cols ≤ 48
+  pub stride-few : z .stride ≤ 64
+  pub wide : z .cols ≤ z .stride
+  pub whole : z .rows * z .stride ≤ length b
+
+-- the kept rows of a factor of size n lie in its list
+pub record Lent (n kept : ℕ) (a : List Float) : Type 0 where
+  pub few : kept ≤ 48
+  pub whole : kept * n ≤ length a
+
+-- both go by the lengths alone
+module _ (z : Sizes) {w w′ : Work} (s : SameLengths w w′) where
+  pub roomy-kept : Roomy z (w .matrix) → Roomy z (w′ .matrix)
+  roomy-kept r =
+      record {
+        rows-few = r .rows-few;
+        cols-few = r .cols-few;
+        stride-few = r .stride-few;
+        wide = r .wide;
+        whole = rw (s .matrix) (r .whole);
+      }
+
+  pub u-kept : (n kept : ℕ) → Lent n kept (w .u) → Lent n kept (w′ .u)
+  u-kept n kept l = record { few = l .few; whole = rw (s .u) (l .whole) }
+
+  pub v-kept : (n kept : ℕ) → Lent n kept (w .v) → Lent n kept (w′ .v)
+  v-kept n kept l = record { few = l .few; whole = rw (s .v) (l .whole) }

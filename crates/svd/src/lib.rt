@@ -1,3 +1,5 @@
+mod bidiagonalization;
+mod bulge_chasing;
 mod givens;
 mod householder;
 mod primitives;

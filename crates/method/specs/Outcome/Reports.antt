@@ -10,11 +10,11 @@ use native.Mathlib.Omega.{arith}
 use lib.Dec.{eqb, leb}
 use borrow.Author.Tests.{eqb-true, eqb-false, eq-eqb, ne-eqb, leb-true, leb-false}
 use lib.Ieee.{Float, Format}
-use Rattle.method.specs.Turns.{turns, turns-alike}
+use Rattle.method.specs.Turns.{turns-alike}
 use Rattle.method.specs.Work.{Work, Shape, work, packed}
 use Rattle.method.specs.Rotation.{Rotation, rotationOf, rowsTurned, columnsTurned}
-use Rattle.method.specs.Bidiagonal.{columnMatrix, rowMatrix, columnZeroed, rowZeroed, firstZeroed, thenZeroed, bidiagonal}
-use Rattle.method.specs.Chase.{along, turned, pushed, stepped, swept, negligible, firstRotation}
+use Rattle.method.specs.Bidiagonal.{columnMatrix, rowMatrix, columnZeroed, rowZeroed, firstZeroed, thenZeroed, placesZeroed, bidiagonal}
+use Rattle.method.specs.Chase.{along, turned, pushed, stepped, steps, swept, negligible, firstRotation}
 use Rattle.method.specs.Walk.{Walk, State, start, run, enough, walked}
 use Rattle.method.specs.Walk.Counts as Counts
 use Rattle.method.specs.Walk.Limits as Limits
@@ -113,20 +113,18 @@ module _ (f : Format) (rows cols : ℕ) where
   then-same floor true k w w′ e = ap (rowMatrix f floor rows cols cols k (k + 1)) e
   then-same floor false k w w′ e = ap (columnMatrix f floor rows cols cols (k + 1) k) e
 
+  places-same : (floor : Float) (upper : Bool) (n : ℕ) (w w′ : Work) → w .matrix ≡ w′ .matrix → placesZeroed f floor full upper n w .matrix ≡ placesZeroed f floor plain upper n w′ .matrix
+  unfolding placesZeroed
+  places-same floor upper n w w′ e =
+      turns-alike (λ (s s′ : Work). s .matrix ≡ s′ .matrix) 0 _ _ (λ k s s′ r. then-same floor upper k _ _ (first-same floor upper k s s′ r)) n w w′ e
+
   bidiagonal-same : (floor : Float) (upper : Bool) (c : ℕ) (w w′ : Work) → w .matrix ≡ w′ .matrix → bidiagonal f floor full upper c w .matrix ≡ bidiagonal f floor plain upper c w′ .matrix
   unfolding bidiagonal
   bidiagonal-same floor upper c w w′ e = go (eqb rows cols) refl
     where
-      down : Shape → Work → Work
-      down z w = turns 0 (c - 1) (λ k s. thenZeroed f floor z upper k (firstZeroed f floor z upper k s)) w
-
-      same : down full w .matrix ≡ down plain w′ .matrix
-      same =
-          turns-alike (λ (s s′ : Work). s .matrix ≡ s′ .matrix) 0 _ _ (λ k s s′ r. then-same floor upper k _ _ (first-same floor upper k s s′ r)) (c - 1) w w′ e
-
       go : (t : Bool) → eqb rows cols ≡ t → bidiagonal f floor full upper c w .matrix ≡ bidiagonal f floor plain upper c w′ .matrix
-      go true t = rw (t, bidiagonal) same
-      go false t = rw (t, bidiagonal) (first-same floor upper (c - 1) _ _ same)
+      go true t = rw (t, bidiagonal) (places-same floor upper (c - 1) w w′ e)
+      go false t = rw (t, bidiagonal) (first-same floor upper (c - 1) _ _ (places-same floor upper (c - 1) w w′ e))
 
   turned-same : (g : Rotation) (byRow : Bool) (i j n : ℕ) (w w′ : Work) → w .matrix ≡ w′ .matrix → turned f full g byRow i j n w .matrix ≡ turned f plain g byRow i j n w′ .matrix
   unfolding turned
@@ -139,7 +137,7 @@ module _ (f : Format) (rows cols : ℕ) where
       ∙ ap (λ (m : List Float). turned f plain (rotationOf f (along byRow cols i j m) (along byRow cols (i + 1) j m)) byRow i j n w′ .matrix) e
 
   swept-same : (upper : Bool) (k : ℕ) (w w′ : Work) → w .matrix ≡ w′ .matrix → swept f full upper k w .matrix ≡ swept f plain upper k w′ .matrix
-  unfolding swept
+  unfolding swept steps
   swept-same upper k w w′ e =
       pushed-same upper k k 2 _ _
       (turns-alike (λ (s s′ : Work). s .matrix ≡ s′ .matrix) 0 (stepped f full upper) (stepped f plain upper)

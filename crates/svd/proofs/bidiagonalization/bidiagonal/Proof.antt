@@ -1,0 +1,15 @@
+-- By whether the table is square. Assumes nothing.
+use borrow.Author.Needs.{needs}
+use mathlib.Core.Path.{_≡_, refl, ap, _∙_}
+use Rattle.method.specs.Bidiagonal.{bidiagonal-square, bidiagonal-other}
+use Rattle.svd.proofs.bidiagonalization.bidiagonal.Statement.{statement}
+use Rattle.svd.proofs.bidiagonalization.bidiagonal.Tie as tie
+
+returns : tie.Need-returns
+returns c = c .before .before .before .before .before .before .zero-first .ensures ∙ bidiagonal-other _ _ _ _ _ _ _ (c .before .before .before .before .before .before .before .before .before .before .before .before .before .before .before .before .before .before .zero-places .ensures) (c .before .before .before .before .before .before .before .before .before .before .if1 .taken)
+
+returns-2 : tie.Need-returns-2
+returns-2 c = bidiagonal-square _ _ _ _ _ _ _ (c .before .before .before .before .before .before .before .before .zero-places .ensures) (c .if1 .left)
+
+pub bidiagonal-spec : {M : Type 1} → statement M
+bidiagonal-spec = tie.close (tie.spec (λ c. search needs) (λ c κs. search needs) (λ c κs. search needs) (λ c. search needs) (λ c. search needs) (λ c. search needs) returns (λ c. search needs) (λ c. search needs) (λ c. search needs) returns-2)

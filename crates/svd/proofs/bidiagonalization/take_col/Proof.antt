@@ -1,0 +1,37 @@
+-- The copy, the clearing, the reflection and the head, one after the other. Assumes nothing.
+use borrow.Author.Needs.{needs}
+use Prim.Native.Nat.{_+_, _-_, _*_, _<_, _≤_, zero-le}
+use mathlib.Core.Path.{_≡_, refl, ap, _∙_}
+use native.Mathlib.Omega.{arith}
+use lib.ListN.{length, length-set}
+use Rattle.method.specs.Index.{row-below, rows-left}
+use Rattle.method.specs.Floats.{plusZero-64}
+use Rattle.svd.proofs.bidiagonalization.take_col.Statement.{statement}
+use Rattle.svd.proofs.bidiagonalization.take_col.Tie as tie
+
+copy-col-requires : tie.Need-copy-col-requires
+copy-col-requires c κs = rw plusZero-64 (omega arith, omega arith, omega (arith, rows-left (c .before .before .before .before .args .i) (c .before .before .before .before .args .rows) (c .before .before .before .before .args .stride) (omega arith)), refl)
+
+clear-col-requires : tie.Need-clear-col-requires
+clear-col-requires c κs = (omega arith, omega arith, omega (arith, rows-left (c .before .before .before .before .before .before .before .args .i) (c .before .before .before .before .before .before .before .args .rows) (c .before .before .before .before .before .before .before .args .stride) (omega arith)))
+
+params-requires : tie.Need-params-requires
+params-requires c κs = (omega arith, omega arith, omega arith, c .before .before .before .before .before .before .before .before .before .before .before .before .pre .4)
+
+mul-head : tie.Need-mul-head
+mul-head c = record { fits = omega (arith, row-below (c .before .before .before .before .before .before .before .before .before .before .before .before .before .before .before .before .args .stride) (c .before .before .before .before .before .before .before .before .before .before .before .before .before .before .before .before .pre .0)) }
+
+add-head : tie.Need-add-head
+add-head c = omega (arith, row-below (c .before .before .before .before .before .before .before .before .before .before .before .before .before .before .before .before .args .stride) (c .before .before .before .before .before .before .before .before .before .before .before .before .before .before .before .before .pre .0))
+
+mul-b : tie.Need-mul-b
+mul-b c = omega (arith, row-below (c .before .before .before .before .before .before .before .before .before .before .before .before .before .before .before .before .args .stride) (c .before .before .before .before .before .before .before .before .before .before .before .before .before .before .before .before .pre .0))
+
+slice-write-b : tie.Need-slice-write-b
+slice-write-b c = omega (arith, row-below (c .before .before .before .before .before .before .before .before .before .before .before .before .before .before .before .before .args .stride) (c .before .before .before .before .before .before .before .before .before .before .before .before .before .before .before .before .pre .0))
+
+returns : tie.Need-returns
+returns c = record { entries = _; made = rw (c .before .before .before .before .before .before .before .before .before .before .before .copy-col .ensures) at (c .before .before .before .params .ensures); table = rw (c .before .before .before .before .before .before .before .before .clear-col .ensures) refl }
+
+pub take-col-spec : {M : Type 1} → statement M
+take-col-spec = tie.close (tie.spec (λ c. search needs) (λ c. search needs) copy-col-requires clear-col-requires (λ c. search needs) params-requires mul-head add-head (λ c. search needs) mul-b slice-write-b (λ c. search needs) (λ c. search needs) returns)

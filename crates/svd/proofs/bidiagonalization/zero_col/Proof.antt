@@ -1,0 +1,29 @@
+-- By tau: the columns right of it and U take the reflection or not. Assumes nothing.
+use borrow.Author.Needs.{needs}
+use Prim.Native.Nat.{_+_, _-_, _*_, _<_, _≤_, zero-le}
+use mathlib.Core.Path.{_≡_, refl, ap, _∙_}
+use native.Mathlib.Omega.{arith}
+use lib.ListN.{length, length-set}
+use Rattle.method.specs.Index.{row-below, rows-left}
+use Rattle.method.specs.Floats.{plusZero-64}
+use Rattle.method.specs.Bidiagonal.{column-still, column-moved, factor-still, factor-moved}
+use Rattle.svd.proofs.bidiagonalization.zero_col.Statement.{statement}
+use Rattle.svd.proofs.bidiagonalization.zero_col.Tie as tie
+
+take-col-requires : tie.Need-take-col-requires
+take-col-requires c κs = rw plusZero-64 (omega arith, omega arith, omega arith, omega arith, refl)
+
+returns : tie.Need-returns
+returns c = (c .before .before .before .before .take-col .ensures .table ∙ column-still _ _ _ _ _ _ _ _ _ (c .before .before .before .before .take-col .ensures .made) (rw plusZero-64 at (c .if1 .taken)), factor-still _ _ _ _ _ _ _ (c .before .before .before .before .take-col .ensures .made) (rw plusZero-64 at (c .if1 .taken)))
+
+lapply-householder-requires : tie.Need-lapply-householder-requires
+lapply-householder-requires c κs = (omega arith, omega arith, omega arith, omega arith, omega arith, omega (arith, rows-left (c .before .before .before .before .before .before .before .before .before .before .before .before .before .args .i) (c .before .before .before .before .before .before .before .before .before .before .before .before .before .args .z .rows) (c .before .before .before .before .before .before .before .before .before .before .before .before .before .args .z .stride) (omega arith)))
+
+rapply-householder-requires : tie.Need-rapply-householder-requires
+rapply-householder-requires c κs = (omega arith, omega arith, omega arith, omega arith, omega arith)
+
+returns-2 : tie.Need-returns-2
+returns-2 c = (c .before .before .before .before .before .before .before .lapply-householder .ensures ∙ rw (c .before .before .before .before .before .before .before .before .before .before .before .before .before .before .before .take-col .ensures .table) (column-moved _ _ _ _ _ _ _ _ _ (c .before .before .before .before .before .before .before .before .before .before .before .before .before .before .before .take-col .ensures .made) (rw plusZero-64 at (c .before .before .before .before .before .before .before .before .before .before .before .if1 .left))), c .before .before .rapply-householder .ensures ∙ factor-moved _ _ _ _ _ _ _ (c .before .before .before .before .before .before .before .before .before .before .before .before .before .before .before .take-col .ensures .made) (rw plusZero-64 at (c .before .before .before .before .before .before .before .before .before .before .before .if1 .left)))
+
+pub zero-col-spec : {M : Type 1} → statement M
+zero-col-spec = tie.close (tie.spec (λ c. search needs) (λ c. search needs) take-col-requires (λ c. search needs) returns (λ c. search needs) (λ c. search needs) (λ c. search needs) lapply-householder-requires (λ c. search needs) rapply-householder-requires (λ c. search needs) (λ c. search needs) returns-2)

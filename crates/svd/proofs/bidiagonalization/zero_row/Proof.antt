@@ -1,0 +1,32 @@
+-- By tau: the row is left as the reflection leaves it, or the rows below and V take it. Assumes nothing.
+use borrow.Author.Needs.{needs}
+use Prim.Native.Nat.{_+_, _-_, _*_, _<_, _≤_, zero-le}
+use mathlib.Core.Path.{_≡_, refl, ap, _∙_}
+use native.Mathlib.Omega.{arith}
+use lib.ListN.{length, length-set}
+use Rattle.method.specs.Index.{row-below, rows-left}
+use Rattle.method.specs.Floats.{plusZero-64}
+use Rattle.method.specs.Bidiagonal.{row-still, row-moved, factor-still, factor-moved}
+use Rattle.svd.proofs.bidiagonalization.zero_row.Statement.{statement}
+use Rattle.svd.proofs.bidiagonalization.zero_row.Tie as tie
+
+mul-at : tie.Need-mul-at
+mul-at c = record { fits = omega (arith, row-below (c .before .before .before .args .z .stride) (c .before .before .before .pre .0)) }
+
+add-at : tie.Need-add-at
+add-at c = omega (arith, row-below (c .before .before .before .args .z .stride) (c .before .before .before .pre .0))
+
+params-requires : tie.Need-params-requires
+params-requires c κs = rw plusZero-64 (omega arith, omega (arith, row-below (c .before .before .before .before .before .args .z .stride) (c .before .before .before .before .before .pre .0)), omega arith, refl)
+
+returns : tie.Need-returns
+returns c = (row-still _ _ _ _ _ _ _ _ _ (c .before .before .before .before .params .ensures) (rw plusZero-64 at (c .if1 .taken)), factor-still _ _ _ _ _ _ _ (c .before .before .before .before .params .ensures) (rw plusZero-64 at (c .if1 .taken)))
+
+rapply-householder-requires : tie.Need-rapply-householder-requires
+rapply-householder-requires c κs = (omega arith, omega arith, omega arith, omega arith, omega (arith, rows-left (c .before .before .before .before .before .before .before .before .before .before .before .before .before .args .i + 1) (c .before .before .before .before .before .before .before .before .before .before .before .before .before .args .z .rows) (c .before .before .before .before .before .before .before .before .before .before .before .before .before .args .z .stride) (omega arith)))
+
+returns-2 : tie.Need-returns-2
+returns-2 c = (c .before .before .before .before .before .before .before .rapply-householder .ensures ∙ row-moved _ _ _ _ _ _ _ _ _ (c .before .before .before .before .before .before .before .before .before .before .before .before .before .before .before .params .ensures) (rw plusZero-64 at (c .before .before .before .before .before .before .before .before .before .before .before .if1 .left)), c .before .before .rapply-householder2 .ensures ∙ factor-moved _ _ _ _ _ _ _ (c .before .before .before .before .before .before .before .before .before .before .before .before .before .before .before .params .ensures) (rw plusZero-64 at (c .before .before .before .before .before .before .before .before .before .before .before .if1 .left)))
+
+pub zero-row-spec : {M : Type 1} → statement M
+zero-row-spec = tie.close (tie.spec (λ c. search needs) mul-at add-at (λ c. search needs) params-requires (λ c. search needs) returns (λ c. search needs) (λ c. search needs) (λ c. search needs) rapply-householder-requires (λ c. search needs) (λ c κs. search needs) (λ c. search needs) (λ c. search needs) returns-2)

@@ -1,0 +1,17 @@
+-- The upper form clears a row, the lower a column. Assumes nothing.
+use borrow.Author.Needs.{needs}
+use mathlib.Core.Path.{_≡_, refl, ap, _∙_}
+use Rattle.method.specs.Bidiagonal.{columnZeroed, rowZeroed}
+use Rattle.svd.proofs.bidiagonalization.zero_then.Statement.{statement}
+use Rattle.svd.proofs.bidiagonalization.zero_then.Tie as tie
+
+returns : tie.Need-returns
+unfolding rowZeroed
+returns c = rw (c .before .before .before .before .before .before .before .if1 .taken) (cc)
+
+returns-2 : tie.Need-returns-2
+unfolding columnZeroed
+returns-2 c = rw (c .before .before .before .before .before .before .before .if1 .left) (cc)
+
+pub zero-then-spec : {M : Type 1} → statement M
+zero-then-spec = tie.close (tie.spec (λ c. search needs) (λ c κs. search needs) (λ c. search needs) (λ c κs. search needs) (λ c. search needs) (λ c. search needs) returns (λ c. search needs) (λ c. search needs) returns-2)

@@ -1,0 +1,50 @@
+-- After `made` turns as many passes have been made, as the definition makes them. Assumes nothing.
+use borrow.Author.Needs.{needs}
+use Prim.Native.Nat.{_+_, _-_, _*_, _<_, _≤_, zero-le}
+use native.Mathlib.Omega.{arith}
+use mathlib.Core.Path.{sym, _∙_}
+use borrow.Author.Tests.{ltb-true, ltb-false}
+use Rattle.method.specs.Work.{work}
+use Rattle.svd.specs.Values.{sizes, settingsOf}
+use Rattle.svd.specs.Passes.{Inv, inv-start, inv-room, inv-drop, inv-sweep, inv-all, inv-narrow, inv-spent, test-asks, sweep-asks}
+use Rattle.svd.proofs.bulge_chasing.decomp_givens.Statement.{statement}
+use Rattle.svd.proofs.bulge_chasing.decomp_givens.Tie as tie
+
+abbrev Inv-loop : tie.InvT-loop
+Inv-loop b₀ u₀ v₀ z upper n s walk₀ made₀ b u v walk made = Inv (sizes z) upper n (settingsOf s) walk₀ (work b₀ u₀ v₀) (work b u v) walk made
+
+abbrev μ-loop : tie.MeasureT-loop
+μ-loop b₀ u₀ v₀ z upper n s walk₀ made₀ b u v walk made = n - made
+
+loop-holds : tie.Need-loop-holds Inv-loop μ-loop
+loop-holds c = inv-start _ _ _ _ _ _ (c .before .before .before .pre .3)
+
+is-negligible-requires : tie.Need-is-negligible-requires Inv-loop μ-loop
+is-negligible-requires c κs = test-asks (c .before .before .before .before .before .before .before .before .before .before .before .pre .3) (c .before .before .before .before .before .before .before .loop .inv) (c .before .before .before .before .before .before .loop-test .taken) (ltb-true _ _ (c .before .before .before .before .if1 .taken)) (ltb-true _ _ (c .before .if2 .taken)) (c .before .before .before .before .before .before .before .before .before .before .before .pre .0)
+
+drop-requires : tie.Need-drop-requires Inv-loop μ-loop
+drop-requires c κs = (ltb-true _ _ (c .before .before .before .before .before .before .if1 .taken), search needs, inv-room (c .before .before .before .before .before .before .before .before .before .before .before .before .before .pre .3) (c .before .before .before .before .before .before .before .before .before .loop .inv) (c .before .before .before .before .before .before .before .before .loop-test .taken))
+
+loop-again : tie.Need-loop-again Inv-loop μ-loop
+loop-again c = inv-drop (c .before .before .before .before .before .before .before .before .before .before .before .before .before .before .pre .3) (c .before .before .before .before .before .before .before .before .before .before .loop .inv) (c .before .before .before .before .before .before .before .before .before .loop-test .taken) (ltb-true _ _ (c .before .before .before .before .before .before .before .if1 .taken)) (ltb-true _ _ (c .before .before .before .before .if2 .taken)) (c .drop .ensures .0) (c .drop .ensures .1) (sym (c .before .before .is-negligible .ensures) ∙ c .before .if3 .taken)
+
+givens-iteration-requires : tie.Need-givens-iteration-requires Inv-loop μ-loop
+givens-iteration-requires c κs = sweep-asks (c .before .before .before .before .before .before .before .before .before .before .before .before .before .before .before .before .pre .3) (c .before .before .before .before .before .before .before .before .before .before .before .before .loop .inv) (c .before .before .before .before .before .before .before .before .before .before .before .loop-test .taken) (ltb-true _ _ (c .before .before .before .before .before .before .before .before .before .if1 .taken)) (ltb-true _ _ (c .before .before .before .before .before .before .if2 .taken)) (c .before .before .before .before .before .before .before .before .before .before .before .before .before .before .before .before .pre .0) (c .before .before .before .before .before .before .before .before .before .before .before .before .before .before .before .before .pre .1) (c .before .before .before .before .before .before .before .before .before .before .before .before .before .before .before .before .pre .2)
+
+sweep-requires : tie.Need-sweep-requires Inv-loop μ-loop
+sweep-requires c κs = inv-room (c .before .before .before .before .before .before .before .before .before .before .before .before .before .before .before .before .before .before .before .before .before .before .before .pre .3) (c .before .before .before .before .before .before .before .before .before .before .before .before .before .before .before .before .before .before .before .loop .inv) (c .before .before .before .before .before .before .before .before .before .before .before .before .before .before .before .before .before .before .loop-test .taken)
+
+loop-again-2 : tie.Need-loop-again-2 Inv-loop μ-loop
+loop-again-2 c = inv-sweep (c .before .before .before .before .before .before .before .before .before .before .before .before .before .before .before .before .before .before .before .before .before .before .before .before .pre .3) (c .before .before .before .before .before .before .before .before .before .before .before .before .before .before .before .before .before .before .before .before .loop .inv) (c .before .before .before .before .before .before .before .before .before .before .before .before .before .before .before .before .before .before .before .loop-test .taken) (ltb-true _ _ (c .before .before .before .before .before .before .before .before .before .before .before .before .before .before .before .before .before .if1 .taken)) (ltb-true _ _ (c .before .before .before .before .before .before .before .before .before .before .before .before .before .before .if2 .taken)) (c .sweep .ensures .0) (c .sweep .ensures .1) (c .before .before .before .before .before .before .before .givens-iteration .ensures) (sym (c .before .before .before .before .before .before .before .before .before .before .before .before .is-negligible .ensures) ∙ c .before .before .before .before .before .before .before .before .before .before .before .if3 .left)
+
+returns : tie.Need-returns Inv-loop μ-loop
+returns c = inv-spent (c .before .before .before .before .before .before .loop .inv) (ltb-false _ _ (c .if2 .left))
+
+returns-2 : tie.Need-returns-2 Inv-loop μ-loop
+returns-2 c = inv-narrow (c .before .before .before .loop .inv) (ltb-false _ _ (c .if1 .left))
+
+returns-3 : tie.Need-returns-3 Inv-loop μ-loop
+returns-3 c = inv-all (c .before .loop .inv) (c .loop-test .left)
+
+pub decomp-givens-spec : {M : Type 1} → statement M
+decomp-givens-spec = tie.close (tie.spec Inv-loop μ-loop loop-holds (λ c. search needs) is-negligible-requires drop-requires (λ c. search needs) loop-again givens-iteration-requires sweep-requires (λ c. search needs) loop-again-2 (λ c. search needs) (λ c. search needs) (λ c. search needs) returns (λ c. search needs) (λ c. search needs) (λ c. search needs) returns-2 (λ c. search needs) (λ c. search needs) (λ c. search needs) returns-3)

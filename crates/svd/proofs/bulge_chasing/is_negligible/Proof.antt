@@ -1,0 +1,21 @@
+-- The places are those of the corner. Assumes nothing.
+use borrow.Author.Needs.{needs}
+use Prim.Native.Nat.{_+_, _-_, _*_, _<_, _≤_, zero-le}
+use native.Mathlib.Omega.{arith}
+use lib.Ieee.{binary64}
+use Rattle.method.specs.Chase.{negligible-is}
+use Rattle.method.specs.Positions.{coupling-inside}
+use Rattle.svd.proofs.bulge_chasing.is_negligible.Statement.{statement}
+use Rattle.svd.proofs.bulge_chasing.is_negligible.Tie as tie
+
+mul-magnitude-3 : tie.Need-mul-magnitude-3
+mul-magnitude-3 c = omega (arith, c .before .before .before .before .before .pre .4, coupling-inside (c .before .before .before .before .before .args .upper) (c .before .before .before .before .before .args .stride) (c .before .before .before .before .before .args .k) (c .before .before .before .before .before .pre .0))
+
+shared-slice-read-magnitude-3 : tie.Need-shared-slice-read-magnitude-3
+shared-slice-read-magnitude-3 c = omega (arith, c .before .before .before .before .before .before .pre .4, coupling-inside (c .before .before .before .before .before .before .args .upper) (c .before .before .before .before .before .before .args .stride) (c .before .before .before .before .before .before .args .k) (c .before .before .before .before .before .before .pre .0))
+
+returns : tie.Need-returns
+returns c = negligible-is binary64 (c .before .before .before .before .before .before .before .before .before .args .stride) (c .before .before .before .before .before .before .before .before .before .args .upper) (c .before .before .before .before .before .before .before .before .before .args .k) _ (c .before .before .before .before .before .before .before .before .before .args .tl) (c .before .before .before .before .before .before .before .before .before .args .bl) (c .before .before .before .before .before .before .before .before .before .args .bl + 1) _ _ (c .before .before .before .before .before .before .before .before .before .args .e1) _ _ _ _ (c .before .before .before .before .before .before .before .before .before .pre .4) (c .before .before .before .before .before .before .before .before .before .pre .5) (omega (arith, c .before .before .before .before .before .before .before .before .before .pre .6)) (c .before .before .before .before .before .before .magnitude .ensures) (c .before .before .before .before .magnitude2 .ensures) (c .before .before .magnitude3 .ensures) (c .smaller .ensures)
+
+pub is-negligible-spec : {M : Type 1} → statement M
+is-negligible-spec = tie.close (tie.spec (λ c. search needs) (λ c. search needs) (λ c. search needs) (λ c κs. search needs) (λ c. search needs) (λ c. search needs) (λ c κs. search needs) mul-magnitude-3 shared-slice-read-magnitude-3 (λ c κs. search needs) (λ c κs. search needs) returns)

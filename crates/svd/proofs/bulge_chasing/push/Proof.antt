@@ -1,0 +1,20 @@
+-- The rotation of the two entries, and then the turn. Assumes nothing.
+use borrow.Author.Needs.{needs}
+use mathlib.Core.Path.{_≡_, refl, ap, _∙_}
+use Prim.Native.Nat.{_+_, _-_, _*_, _<_, _≤_, zero-le}
+use native.Mathlib.Omega.{arith}
+use Rattle.method.specs.Index.{row-in}
+use Rattle.svd.proofs.bulge_chasing.push.Statement.{statement}
+use Rattle.svd.proofs.bulge_chasing.push.Tie as tie
+
+along-requires : tie.Need-along-requires
+along-requires c κs = (omega (arith, row-in (c .before .before .before .before .args .i) (c .before .before .before .before .args .z .rows) (c .before .before .before .before .args .z .stride) (omega arith)), omega (arith, row-in (c .before .before .before .before .args .j) (c .before .before .before .before .args .z .rows) (c .before .before .before .before .args .z .stride) (omega arith)))
+
+along-requires-2 : tie.Need-along-requires-2
+along-requires-2 c κs = (omega (arith, row-in (c .before .before .before .before .before .before .args .i + 1) (c .before .before .before .before .before .before .args .z .rows) (c .before .before .before .before .before .before .args .z .stride) (omega arith)), omega (arith, row-in (c .before .before .before .before .before .before .args .j) (c .before .before .before .before .before .before .args .z .rows) (c .before .before .before .before .before .before .args .z .stride) (omega arith)))
+
+returns : tie.Need-returns
+returns c = rw (c .before .before .before .before .before .before .turn .ensures, c .before .before .before .before .before .before .before .before .before .before .implicit-givens-rotation .ensures, c .before .before .before .before .before .before .before .before .before .before .before .before .before .along .ensures, c .before .before .before .before .before .before .before .before .before .before .before .along2 .ensures) refl
+
+pub push-spec : {M : Type 1} → statement M
+push-spec = tie.close (tie.spec along-requires (λ c. search needs) along-requires-2 (λ c κs. search needs) (λ c κs. search needs) (λ c. search needs) (λ c. search needs) (λ c. search needs) returns)

@@ -1,0 +1,13 @@
+-- The two pushes, one after the other. Assumes nothing.
+use borrow.Author.Needs.{needs}
+use lib.Ieee.{binary64}
+use Rattle.svd.specs.Values.{sizes}
+use Rattle.method.specs.Chase.{stepped-is}
+use Rattle.svd.proofs.bulge_chasing.step.Statement.{statement}
+use Rattle.svd.proofs.bulge_chasing.step.Tie as tie
+
+returns : tie.Need-returns
+returns c = stepped-is binary64 (sizes (c .before .before .before .before .before .before .before .before .before .before .before .before .before .before .before .before .before .before .before .before .before .before .before .args .z)) (c .before .before .before .before .before .before .before .before .before .before .before .before .before .before .before .before .before .before .before .before .before .before .before .args .upper) (c .before .before .before .before .before .before .before .before .before .before .before .before .before .before .before .before .before .before .before .before .before .before .before .args .k) _ _ _ (c .before .before .before .before .before .before .before .before .before .before .before .before .before .before .before .before .push .ensures) (c .before .before .before .before .before .before .push2 .ensures)
+
+pub step-spec : {M : Type 1} → statement M
+step-spec = tie.close (tie.spec (λ c κs. search needs) (λ c. search needs) (λ c κs. search needs) (λ c. search needs) (λ c. search needs) (λ c. search needs) returns)

@@ -1,0 +1,25 @@
+-- By whether the lines are rows, which U follows, or columns, which V follows. Assumes nothing.
+use borrow.Author.Needs.{needs}
+use mathlib.Core.Path.{_≡_, refl, ap, _∙_}
+use native.Mathlib.Omega.{arith}
+use native.Mathlib.Nat.{mul-le-mul-right}
+use Rattle.method.specs.Chase.{turned}
+use Rattle.svd.proofs.bulge_chasing.turn.Statement.{statement}
+use Rattle.svd.proofs.bulge_chasing.turn.Tie as tie
+
+apply-g-left-requires : tie.Need-apply-g-left-requires
+apply-g-left-requires c κs = (omega arith, omega arith, omega (arith, mul-le-mul-right (c .before .before .before .before .before .args .z .stride) (c .before .before .before .before .before .pre .0)))
+
+apply-gt-right-requires-2 : tie.Need-apply-gt-right-requires-2
+apply-gt-right-requires-2 c κs = (omega arith, omega arith, omega (arith, mul-le-mul-right (c .before .before .before .before .before .args .z .stride) (c .before .before .before .before .before .pre .2)))
+
+returns : tie.Need-returns
+unfolding turned
+returns c = rw (c .before .before .before .before .before .before .before .before .if1 .taken) (cc)
+
+returns-2 : tie.Need-returns-2
+unfolding turned
+returns-2 c = rw (c .before .before .before .before .before .before .before .before .if1 .left) (cc)
+
+pub turn-spec : {M : Type 1} → statement M
+turn-spec = tie.close (tie.spec apply-g-left-requires (λ c κs. search needs) apply-gt-right-requires-2 (λ c κs. search needs) (λ c. search needs) (λ c. search needs) returns (λ c. search needs) (λ c. search needs) returns-2)

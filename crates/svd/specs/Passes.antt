@@ -1,0 +1,166 @@
+-- The walk's record in the code: what a pass asks of it, and what it is after so many passes. Assumes nothing.
+use mathlib.Core.Path.{_≡_, refl, sym, ap, _∙_}
+use mathlib.Core.Bool.{Bool, true, false}
+use mathlib.Core.List.{List}
+use Prim.Native.Nat.{ℕ, _+_, _-_, _*_, _≤_, _<_, zero-le}
+use native.Mathlib.Nat.{le-trans, mul-le-mul-right}
+use lib.ListN.{length}
+use native.Mathlib.Omega.{arith}
+use lib.Ieee.{Float, binary64}
+use Rattle.method.specs.Work.{Work, Shape as Sizes}
+use Rattle.method.specs.Lengths.{SameLengths, onward, swept-lengths}
+use Rattle.method.specs.Chase.{negligible, swept}
+use Rattle.method.specs.Walk.{Rules, State, stands, run, afterDrop, afterSweep}
+use Rattle.method.specs.Walk.Run.{Going, narrow, spent}
+use Rattle.method.specs.Walk.Loop.{Room, Made, made-none, made-drop, made-sweep, made-moved, made-room, made-all, made-end}
+use Rattle.method.specs.Positions.{Placed, couplingPlace, counted, cornerDropped, counted-placed, dropped-placed}
+use Rattle.method.specs.Outcome.{rulesOf, Settings}
+use Rattle.svd.specs.Values.{counts, corner, Roomy, Lent, roomy-kept, u-kept, v-kept}
+use Rattle.svd.specs.declared.primitives.Walk.{Walk}
+
+-- a record from which n passes may be asked: its range lies in the table, its places are those of the range, and its counts have room
+pub record Standing (z : Sizes) (upper : Bool) (n : ℕ) (w : Walk) : Type 0 where
+  pub in-rows : w .range ≤ z .rows
+  pub in-cols : w .range ≤ z .cols
+  pub placed : Placed upper (z .stride) (corner w)
+  pub room : Room n (counts w)
+
+-- ---- the places of a record of range 2 or more, by its interior
+
+pub record Here (z : Sizes) (upper : Bool) (w : Walk) : Type 0 where
+  pub two : w .range ≡ w .inter + 2
+  pub coupling : w .e1 ≡ couplingPlace upper (z .stride) (w .inter)
+  pub topLeft : w .tl ≡ w .inter * z .stride + w .inter
+  pub bottomLeft : w .bl ≡ (w .inter + 1) * z .stride + w .inter
+
+pub here : (z : Sizes) (upper : Bool) (w : Walk) → Placed upper (z .stride) (corner w) → 1 < w .range → Here z upper w
+here z upper w p h =
+    let s = p .placed h in
+    let e : w .range - 2 ≡ w .inter = sym (s .inter) in
+    record {
+      two = omega (arith, s .inter);
+      coupling = rw e at (s .coupling);
+      topLeft = rw e at (s .topLeft);
+      bottomLeft = rw e at (s .bottomLeft);
+    }
+
+-- ---- the loop
+
+-- after `made` turns the lists have their lengths, the places are those of the range, and as many passes have been made
+pub record Inv (z : Sizes) (upper : Bool) (n : ℕ) (s : Settings) (first : Walk) (start : Work) (now : Work) (w : Walk) (made : ℕ) : Type 0 where
+  pub same : SameLengths start now
+  pub within : made ≤ n
+  pub placed : Placed upper (z .stride) (corner w)
+  pub by : Made (rulesOf binary64 z upper (s .tolerance) (s .absolute)) (s .limit) (s .credit) (stands (counts first) start) made (stands (counts w) now)
+
+pub inv-start : (z : Sizes) (upper : Bool) (n : ℕ) (s : Settings) (first : Walk) (d : Work) → Standing z upper n first → Inv z upper n s first d d first 0
+inv-start z upper n s first d q =
+    record { same = record { matrix = refl; u = refl; v = refl }; within = zero-le; placed = q .placed; by = made-none _ _ _ _ }
+
+module _ {z : Sizes} {upper : Bool} {n : ℕ} {s : Settings} {first : Walk} {start now : Work} {w : Walk} {made : ℕ} (q : Standing z upper n first) (i : Inv z upper n s first start now w made) where
+  pub inv-room : made < n → Room 1 (counts w)
+  inv-room h = made-room (i .by) (q .room) h
+
+  -- the range stays in the table
+  pub inv-rows : w .range ≤ z .rows
+  inv-rows = le-trans (made-moved (i .by) .range) (q .in-rows)
+
+  pub inv-cols : w .range ≤ z .cols
+  inv-cols = le-trans (made-moved (i .by) .range) (q .in-cols)
+
+  module _ (left : made < n) (wide : 1 < w .range) (below : w .counter < s .limit) where
+    at : Here z upper w
+    at = here z upper w (i .placed) wide
+
+    goes : Going (s .limit) (counts w)
+    goes = record { wide = wide; below = below }
+
+    k-is : w .range - 2 ≡ w .inter
+    k-is = omega (arith, at .two)
+
+    -- one turn by each arm
+    pub inv-drop :
+        {w′ : Walk} →
+        counts w′ ≡ afterDrop (s .credit) (counts w) →
+        corner w′ ≡ cornerDropped (z .stride) (s .credit) (counted (corner w)) →
+        negligible binary64 (s .tolerance) (s .absolute) (z .stride) upper (w .inter) (now .matrix) ≡ true →
+        Inv z upper n s first start now w′ (made + 1)
+    inv-drop ec eo t =
+        record {
+          same = i .same;
+          within = omega arith;
+          placed = rw eo (dropped-placed upper (z .stride) (s .credit) _ (counted-placed upper (z .stride) _ (i .placed)));
+          by = rw ec (made-drop (i .by) goes (rw k-is t));
+        }
+
+    pub inv-sweep :
+        {w′ : Walk} {now′ : Work} →
+        counts w′ ≡ afterSweep (counts w) →
+        corner w′ ≡ counted (corner w) →
+        now′ ≡ swept binary64 z upper (w .inter) now →
+        negligible binary64 (s .tolerance) (s .absolute) (z .stride) upper (w .inter) (now .matrix) ≡ false →
+        Inv z upper n s first start now′ w′ (made + 1)
+    inv-sweep ec eo en t =
+        record {
+          same = onward (i .same) (rw en (swept-lengths binary64 z upper (w .inter) now));
+          within = omega arith;
+          placed = rw eo (counted-placed upper (z .stride) _ (i .placed));
+          by = rw (ec, en) (rw k-is at (made-sweep (i .by) goes (rw k-is t)));
+        }
+
+    -- what the test for a drop asks
+    pub test-asks :
+        Roomy z (start .matrix) →
+        (w .inter + 2 ≤ z .stride)
+        × (w .inter ≤ 46)
+        × (z .stride ≤ 64)
+        × ((w .inter + 2) * z .stride ≤ length (now .matrix))
+        × (w .e1 ≡ couplingPlace upper (z .stride) (w .inter))
+        × (w .tl ≡ w .inter * z .stride + w .inter)
+        × (w .bl ≡ (w .inter + 1) * z .stride + w .inter)
+    test-asks r = (
+      omega (arith, at .two, inv-cols, r .wide),
+      omega (arith, at .two, inv-cols, r .cols-few),
+      r .stride-few,
+      rw (i .same .matrix) (le-trans (mul-le-mul-right (z .stride) (let l : w .inter + 2 ≤ z .rows = omega (arith, at .two, inv-rows) in l)) (r .whole)),
+      at .coupling,
+      at .topLeft,
+      at .bottomLeft,
+    )
+
+    -- what a sweep asks
+    pub sweep-asks :
+        Roomy z (start .matrix) →
+        Lent (z .rows) (z .urows) (start .u) →
+        Lent (z .cols) (z .vrows) (start .v) →
+        (w .inter + 2 ≤ z .rows)
+        × (w .inter + 2 ≤ z .cols)
+        × Roomy z (now .matrix)
+        × Lent (z .rows) (z .urows) (now .u)
+        × Lent (z .cols) (z .vrows) (now .v)
+        × (w .tl ≡ w .inter * z .stride + w .inter)
+        × (w .bl ≡ (w .inter + 1) * z .stride + w .inter)
+    sweep-asks r lu lv = (
+      omega (arith, at .two, inv-rows),
+      omega (arith, at .two, inv-cols),
+      roomy-kept z (i .same) r,
+      u-kept z (i .same) _ _ lu,
+      v-kept z (i .same) _ _ lv,
+      at .topLeft,
+      at .bottomLeft,
+    )
+
+-- ---- the ways out
+
+module _ {z : Sizes} {upper : Bool} {n : ℕ} {s : Settings} {first : Walk} {start now : Work} {w : Walk} {made : ℕ} (i : Inv z upper n s first start now w made) where
+  abbrev asked : State Work
+  asked = run (rulesOf binary64 z upper (s .tolerance) (s .absolute)) (s .limit) (s .credit) n (stands (counts first) start)
+
+  pub inv-all : n ≤ made → stands (counts w) now ≡ asked
+  inv-all h = made-all (i .by) (i .within) h
+
+  pub inv-narrow : w .range ≤ 1 → stands (counts w) now ≡ asked
+  inv-narrow h = made-end (i .by) (i .within) (narrow (s .limit) (counts w) h)
+
+  pub inv-spent : s .limit ≤ w .counter → stands (counts w) now ≡ asked
+  inv-spent h = made-end (i .by) (i .within) (spent (s .limit) (counts w) h)

@@ -1,0 +1,182 @@
+// The walk over the bidiagonal form (svd/bulge_chasing.rs, with its twins in svd/verify.rs): each
+// pass drops the last coupling of the live corner where it is negligible, and sweeps the corner
+// where it is not. The upper and the lower form differ in which lines, rows or columns, come first.
+use crate::givens::Rotation;
+use crate::givens::apply_g_left;
+use crate::givens::apply_gt_right;
+use crate::givens::implicit_givens_rotation;
+use crate::primitives::Walk;
+use crate::primitives::singular;
+use crate::settings::Settings;
+use crate::shape::Shape;
+ghost use mathlib.Core.Path.{_≡_};
+ghost use mathlib.Core.Bool.{not};
+ghost use Prim.Native.Nat.{_+_, _-_, _*_, _≤_, _<_};
+ghost use lib.ListN.{length, getD};
+ghost use lib.Ieee.{nan, binary64};
+ghost use Rattle.method.specs.Work.{work};
+ghost use Rattle.method.specs.Walk.{stands, run};
+ghost use Rattle.method.specs.Walk.Loop.{Room};
+ghost use Rattle.method.specs.Positions.{couplingPlace};
+ghost use Rattle.method.specs.Chase.{along, turned, pushed, stepped, steps, negligible, firstRotation, swept};
+ghost use Rattle.method.specs.Outcome.{rulesOf};
+ghost use Rattle.svd.specs.Values.{rotation, sizes, counts, Roomy, Lent};
+ghost use Rattle.svd.specs.Passes.{Standing};
+
+// Entry j of line i, a row or a column.
+fn along(b: &[f64], stride: usize, rowwise: bool, i: usize, j: usize) -> f64
+    requires { ⌜ (i * stride + j < length (now b)) × (j * stride + i < length (now b)) ⌝ }
+    ensures { λ r. ⌜ r ≡ along rowwise stride i j (now (b .entry)) ⌝ }
+{
+    if rowwise {
+        let at = i * stride + j;
+        return b[at];
+    }
+    let at = j * stride + i;
+    b[at]
+}
+
+// Lines i and i + 1, turned in the n entries from j on. Rows turn the same columns of U with them,
+// columns those of V.
+fn turn(
+    b: &mut [f64],
+    u: &mut [f64],
+    v: &mut [f64],
+    z: Shape,
+    g: Rotation,
+    rowwise: bool,
+    i: usize,
+    j: usize,
+    n: usize,
+)
+    requires { ⌜ (i + 2 ≤ z .rows) × (i + 2 ≤ z .cols) × (j + n ≤ z .rows) × (j + n ≤ z .cols) × Roomy (sizes z) (now b) × Lent (z .rows) (z .urows) (now u) × Lent (z .cols) (z .vrows) (now v) ⌝ }
+    ensures { λ _. ⌜ work (now (b .exit)) (now (u .exit)) (now (v .exit)) ≡ turned binary64 (sizes z) (rotation g) rowwise i j n (work (now (b .entry)) (now (u .entry)) (now (v .entry))) ⌝ }
+{
+    if rowwise {
+        apply_g_left(b, g, z.stride, i, j, n);
+        apply_gt_right(u, g, z.rows, i, 0, z.urows);
+    } else {
+        apply_gt_right(b, g, z.stride, i, j, n);
+        apply_gt_right(v, g, z.cols, i, 0, z.vrows);
+    }
+}
+
+// Zero pushed into entry j of line i + 1, out of entry j of line i.
+fn push(
+    b: &mut [f64],
+    u: &mut [f64],
+    v: &mut [f64],
+    z: Shape,
+    rowwise: bool,
+    i: usize,
+    j: usize,
+    n: usize,
+)
+    requires { ⌜ (1 ≤ n) × (i + 2 ≤ z .rows) × (i + 2 ≤ z .cols) × (j + n ≤ z .rows) × (j + n ≤ z .cols) × Roomy (sizes z) (now b) × Lent (z .rows) (z .urows) (now u) × Lent (z .cols) (z .vrows) (now v) ⌝ }
+    ensures { λ _. ⌜ work (now (b .exit)) (now (u .exit)) (now (v .exit)) ≡ pushed binary64 (sizes z) rowwise i j n (work (now (b .entry)) (now (u .entry)) (now (v .entry))) ⌝ }
+{
+    let x = along(b, z.stride, rowwise, i, j);
+    let y = along(b, z.stride, rowwise, i + 1, j);
+    let g = implicit_givens_rotation(x, y);
+    turn(b, u, v, z, g, rowwise, i, j, n);
+}
+
+// One step down the diagonal.
+fn step(b: &mut [f64], u: &mut [f64], v: &mut [f64], z: Shape, upper: bool, k: usize)
+    requires { ⌜ (k + 3 ≤ z .rows) × (k + 3 ≤ z .cols) × Roomy (sizes z) (now b) × Lent (z .rows) (z .urows) (now u) × Lent (z .cols) (z .vrows) (now v) ⌝ }
+    ensures { λ _. ⌜ work (now (b .exit)) (now (u .exit)) (now (v .exit)) ≡ stepped binary64 (sizes z) upper k (work (now (b .entry)) (now (u .entry)) (now (v .entry))) ⌝ }
+{
+    push(b, u, v, z, upper, k, k, 3);
+    push(b, u, v, z, !upper, k + 1, k, 3);
+}
+
+// The steps down the interior of the live corner.
+fn chase(b: &mut [f64], u: &mut [f64], v: &mut [f64], z: Shape, upper: bool, interior: usize)
+    requires { ⌜ (interior + 2 ≤ z .rows) × (interior + 2 ≤ z .cols) × Roomy (sizes z) (now b) × Lent (z .rows) (z .urows) (now u) × Lent (z .cols) (z .vrows) (now v) ⌝ }
+    ensures { λ _. ⌜ work (now (b .exit)) (now (u .exit)) (now (v .exit)) ≡ steps binary64 (sizes z) upper interior (work (now (b .entry)) (now (u .entry)) (now (v .entry))) ⌝ }
+{
+    for k in 0..interior {
+        step(b, u, v, z, upper, k);
+    }
+}
+
+// The rotation that a sweep starts with.
+fn first_rotation(b: &[f64], stride: usize, upper: bool, k: usize, tl: usize, bl: usize) -> Rotation
+    requires { ⌜ (2 ≤ stride) × (stride ≤ 64) × (k ≤ 46) × (k + 2 ≤ stride) × ((k + 2) * stride ≤ length (now b)) × (tl ≡ k * stride + k) × (bl ≡ (k + 1) * stride + k) ⌝ }
+    ensures { λ r. ⌜ rotation r ≡ firstRotation binary64 stride upper k (now (b .entry)) ⌝ }
+{
+    let tr = tl + 1;
+    let br = bl + 1;
+    let shift = singular(b[tl], b[tr], b[bl], b[br]);
+    let first = b[0];
+    let next = along(b, stride, !upper, 1, 0);
+    implicit_givens_rotation(first * first - shift, first * next)
+}
+
+// A sweep over the live corner whose last 2 x 2 starts at (interior, interior).
+fn givens_iteration(
+    b: &mut [f64],
+    u: &mut [f64],
+    v: &mut [f64],
+    z: Shape,
+    upper: bool,
+    interior: usize,
+    tl: usize,
+    bl: usize,
+)
+    requires { ⌜ (interior + 2 ≤ z .rows) × (interior + 2 ≤ z .cols) × Roomy (sizes z) (now b) × Lent (z .rows) (z .urows) (now u) × Lent (z .cols) (z .vrows) (now v) × (tl ≡ interior * z .stride + interior) × (bl ≡ (interior + 1) * z .stride + interior) ⌝ }
+    ensures { λ _. ⌜ work (now (b .exit)) (now (u .exit)) (now (v .exit)) ≡ swept binary64 (sizes z) upper interior (work (now (b .entry)) (now (u .entry)) (now (v .entry))) ⌝ }
+{
+    let g = first_rotation(b, z.stride, upper, interior, tl, bl);
+    turn(b, u, v, z, g, !upper, 0, 0, 2);
+    chase(b, u, v, z, upper, interior);
+    push(b, u, v, z, upper, interior, interior, 2);
+}
+
+// Whether the coupling is negligible beside its diagonal neighbours.
+fn is_negligible(
+    b: &[f64],
+    stride: usize,
+    upper: bool,
+    k: usize,
+    e1: usize,
+    tl: usize,
+    bl: usize,
+    s: Settings,
+) -> bool
+    requires { ⌜ (k + 2 ≤ stride) × (k ≤ 46) × (stride ≤ 64) × ((k + 2) * stride ≤ length (now b)) × (e1 ≡ couplingPlace upper stride k) × (tl ≡ k * stride + k) × (bl ≡ (k + 1) * stride + k) ⌝ }
+    ensures { λ r. ⌜ r ≡ negligible binary64 (s .tolerance) (s .absolute) stride upper k (now (b .entry)) ⌝ }
+{
+    let br = bl + 1;
+    let scale = float::magnitude(b[tl]) + float::magnitude(b[br]);
+    float::magnitude(b[e1]) < float::smaller(scale * s.tolerance, s.absolute)
+}
+
+// At most n passes from a record.
+pub(crate) fn decomp_givens(
+    b: &mut [f64],
+    u: &mut [f64],
+    v: &mut [f64],
+    z: Shape,
+    upper: bool,
+    first: Walk,
+    n: usize,
+    s: Settings,
+) -> Walk
+    requires { ⌜ Roomy (sizes z) (now b) × Lent (z .rows) (z .urows) (now u) × Lent (z .cols) (z .vrows) (now v) × Standing (sizes z) upper n first ⌝ }
+    ensures { λ r. ⌜ stands (counts r) (work (now (b .exit)) (now (u .exit)) (now (v .exit))) ≡ run (rulesOf binary64 (sizes z) upper (s .tolerance) (s .absolute)) (s .limit) (s .credit) n (stands (counts first) (work (now (b .entry)) (now (u .entry)) (now (v .entry)))) ⌝ }
+{
+    let mut walk = first;
+    let mut made = 0;
+    while made < n && walk.range > 1 && walk.counter < s.limit {
+        made += 1;
+        let drops = is_negligible(b, z.stride, upper, walk.inter, walk.e1, walk.tl, walk.bl, s);
+        if drops {
+            walk = walk.drop(z.stride, s.credit);
+        } else {
+            givens_iteration(b, u, v, z, upper, walk.inter, walk.tl, walk.bl);
+            walk = walk.sweep();
+        }
+    }
+    walk
+}
