@@ -12,12 +12,12 @@ use lib.ListN.{length, length-append}
 use Rattle.method.specs.Outcome.{Word, none as noWord, settled, stopped, Outcome, plainOutcome}
 use Rattle.method.specs.Defaults.{defaults}
 use Rattle.survey.specs.declared.reading.Entry.{Entry}
-use Rattle.survey.specs.Text.{Bytes, LF, _>>=_, cut, shown, lineText}
+use Rattle.survey.specs.Text.{Bytes, LF, _>>=_, cut, shown, ending, lineText}
 use Rattle.survey.specs.Form.{countLine, entryLine, rowLine, short, Got, malformed, got, line, andThen, contents, head, body, bodies, reading}
 use Rattle.survey.specs.Print.{rowsText, refusedWord, wordText, reportText, refusedText, outcomeText, surveyText, surveysText, refusalText, printed, split}
 use Rattle.survey.specs.Code.{Small, surveyOf}
 use Rattle.survey.specs.Found.{InRange, number-range}
-use Rattle.survey.specs.Writing.{length-shown, places-most, length-rows, outcome-accepted, outcome-refused}
+use Rattle.survey.specs.Writing.{refusal-is, length-shown, places-most, length-rows, outcome-accepted, outcome-refused}
 use Rattle.survey.specs.Answer.{Table, small, same-size}
 use Rattle.survey.specs.Whole.{All, contents-all, body-length, area}
 use Rattle.survey.specs.LineSize.{line-size}
@@ -33,7 +33,7 @@ Short (w ∷ ws) = (length w ≤ 7) × Short ws
 line-most : (ws : List Bytes) → Short ws → length (lineText ws) ≤ 8 * length ws
 unfolding lineText
 line-most [] s = omega arith
-line-most (w ∷ ws) s = omega (arith, length-append w _, s .0, line-most ws (s .1))
+line-most (w ∷ ws) s = omega (arith, length-append w (ending ws ∷ lineText ws), s .0, line-most ws (s .1))
 
 shown-most : (n : ℕ) → n < 1000000 → length (shown n) ≤ 7
 shown-most n h = omega (arith, length-shown n, places-most 5 n (omega arith))
@@ -46,7 +46,7 @@ word-most stopped = omega arith
 refusal-most : (n : ℕ) → n < 1000000 → length (refusalText n) ≤ 24
 unfolding refusalText
 refusal-most zero h = omega arith
-refusal-most (suc n) h = line-most (refusedWord ∷ shown 9 ∷ shown (suc n) ∷ []) (omega arith, shown-most 9 (omega arith), shown-most (suc n) h, tt)
+refusal-most (suc n) h = rw (refusal-is (suc n) (omega arith)) (line-most (refusedWord ∷ shown 9 ∷ shown (suc n) ∷ []) (omega arith, (shown-most 9 (omega arith), (shown-most (suc n) h, tt))))
 
 -- ---- a survey
 
@@ -67,13 +67,13 @@ module _ (e : Entry) (xs : List Float) (r : InRange e) (l : length xs ≡ e .row
       go : (b : Bool) → eqb (told .report .number) 0 ≡ b → Small (told .report) → length (told .held .matrix) ≡ length xs → length (outcomeText (e .id) (e .rows) (e .cols) told) ≤ 39216
       go true x s m =
           let w = line-most (shown (e .id) ∷ wordText (told .report .word) ∷ shown (told .report .passes) ∷ shown (told .report .sweeps) ∷ shown (told .report .drops) ∷ shown (told .report .range) ∷ [])
-          (shown-most _ id-few, word-most (told .report .word), shown-most _ (s .passes), shown-most _ (s .sweeps), shown-most _ (s .drops), shown-most _ (s .range), tt) in
+          (shown-most (e .id) id-few, (word-most (told .report .word), (shown-most (told .report .passes) (s .passes), (shown-most (told .report .sweeps) (s .sweeps), (shown-most (told .report .drops) (s .drops), (shown-most (told .report .range) (s .range), tt)))))) in
           let q = length-rows (e .rows) (e .cols) (told .held .matrix) (omega (arith, m, l)) in
           rw (outcome-accepted (e .id) (e .rows) (e .cols) told (eqb-true (told .report .number) 0 x))
           (omega (arith, length-append (reportText (e .id) (told .report)) (rowsText (e .rows) (e .cols) (told .held .matrix)), w, q, area e r .0))
       go false x s m =
           let w = line-most (shown (e .id) ∷ refusedWord ∷ shown (told .report .number) ∷ shown (told .report .place) ∷ [])
-          (shown-most _ id-few, omega arith, shown-most _ (s .number), shown-most _ (s .place), tt) in
+          (shown-most (e .id) id-few, (omega arith, (shown-most (told .report .number) (s .number), (shown-most (told .report .place) (s .place), tt)))) in
           rw (outcome-refused (e .id) (e .rows) (e .cols) told (eqb-false (told .report .number) 0 x)) (omega (arith, w))
 
 -- ---- line numbers
