@@ -17,6 +17,7 @@ use Rattle.svd.specs.declared.settings.Settings.{Settings}
 use Rattle.svd.specs.declared.report.Report.{Report}
 use Rattle.svd.specs.declared.report.Word.{Word}
 use Rattle.svd.specs.declared.report.Word.the-variants.{None, Settled, Stopped}
+use Rattle.svd.specs.declared.interface.Refusal.{Refusal}
 use Rattle.svd.specs.declared.shape.Shape.{Shape}
 use Rattle.svd.specs.declared.primitives.Walk.{Walk}
 
@@ -62,6 +63,10 @@ reportOf r =
       drops = r .drops;
       range = r .range;
     }
+
+-- a refusal
+abbrev pub refusalIn : Refusal → Outcome.Refusal
+refusalIn r = Outcome.refusal (r .number) (r .place)
 
 -- what making the reflection of column j from row i on leaves in the table and in the vector, and its tau
 pub record Taken (floor : Float) (rows stride i j : ℕ) (b b′ p : List Float) (tau : Float) : Type 0 where

@@ -73,12 +73,12 @@ notAll false b c = (λ e. inl refl, λ x. refl)
 -- ---- the first of a list of checks
 
 -- where the first check fails, it is the refusal
-first-hit : (c : Check) (cs : List Check) → c .fails ≡ true → firstOf (c ∷ cs) ≡ refusal (c .number) (c .place)
+pub first-hit : (c : Check) (cs : List Check) → c .fails ≡ true → firstOf (c ∷ cs) ≡ refusal (c .number) (c .place)
 unfolding firstOf
 first-hit c cs e = rw (e, firstOf)
 
 -- where the first check passes, the refusal is that of the rest
-first-miss : (c : Check) (cs : List Check) → c .fails ≡ false → firstOf (c ∷ cs) ≡ firstOf cs
+pub first-miss : (c : Check) (cs : List Check) → c .fails ≡ false → firstOf (c ∷ cs) ≡ firstOf cs
 unfolding firstOf
 first-miss c cs e = rw (e, firstOf)
 
