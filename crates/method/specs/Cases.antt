@@ -177,5 +177,5 @@ original =
     ∷ []
 
 pub slips : shown ≡ original
-unfolding ofBits toBits neg add sub mul div lt eq isNan magnitude signOf smaller larger squareRoot go turns rotationOf pairTurned rowsTurned columnsTurned largestOf scaled cleared squaresOf tailTimes reflectionOf rowTimes tailLess rowLess rowReflected reflectedRight rowCopied rowAdded rowsAdded columnSums allTimes rowLessAll rowLessTimes lowerLess rowsLess reflectedLeft columnCopied columnCleared columnMatrix rowMatrix factorReflected columnZeroed rowZeroed bidiagonal turned singular negligible swept pass run firstOf firstBad accepted outcome identity defaultTolerance defaultAbsolute defaultFloor
+unfolding ofBits toBits neg add sub mul div lt eq isNan magnitude signOf smaller larger squareRoot go turns rotationOf pairTurned rowsTurned columnsTurned largestOf scaled cleared squaresOf tailTimes reflectionOf rowTimes tailLess rowLess rowReflected reflectedRight rowCopied rowAdded rowsAdded columnSums allTimes rowLessAll rowLessTimes lowerLess rowsLess reflectedLeft columnCopied columnCleared columnMatrix rowMatrix factorReflected columnZeroed rowZeroed placesZeroed bidiagonal turned singular negligible steps swept pass run firstOf firstBad accepted outcome identity defaultTolerance defaultAbsolute defaultFloor
 slips = refl
