@@ -102,17 +102,17 @@ fn chosen() -> Vec<Case> {
 }
 
 /// Splitmix64.
-struct Draw(u64);
+pub(crate) struct Draw(pub(crate) u64);
 
 impl Draw {
-    fn bits(&mut self) -> u64 {
+    pub(crate) fn bits(&mut self) -> u64 {
         self.0 = self.0.wrapping_add(0x9E37_79B9_7F4A_7C15);
         let z = (self.0 ^ (self.0 >> 30)).wrapping_mul(0xBF58_476D_1CE4_E5B9);
         let z = (z ^ (z >> 27)).wrapping_mul(0x94D0_49BB_1331_11EB);
         z ^ (z >> 31)
     }
 
-    fn below(&mut self, bound: u64) -> u64 {
+    pub(crate) fn below(&mut self, bound: u64) -> u64 {
         self.bits() % bound
     }
 
@@ -138,7 +138,7 @@ impl Draw {
 }
 
 /// Readings are always finite.
-const READINGS: [fn(&mut Draw, f64) -> f64; 8] = [
+pub(crate) const READINGS: [fn(&mut Draw, f64) -> f64; 8] = [
     |draw, _| draw.whole(9),
     |draw, _| draw.of(&[0.0, 0.0, 0.0, -0.0, 1.0, 2.0, -3.0]),
     |draw, _| draw.float(-3, 3),

@@ -3,7 +3,9 @@
 
 pub mod cases;
 mod record;
+pub mod survey;
 pub mod text;
+pub mod texts;
 
 /// The original, under the paths by which its files name each other.
 #[rustfmt::skip]

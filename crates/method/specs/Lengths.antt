@@ -101,6 +101,10 @@ module _ (f : Format) (floor : Float) (z : Shape) where
       go true e = rw (e, bidiagonal) (places-lengths upper (c - 1) w)
       go false e = rw (e, bidiagonal) (onward (places-lengths upper (c - 1) w) (first-lengths upper (c - 1) _))
 
+  -- the same of lists that are those of the bidiagonal form
+  pub bidiagonal-kept : (upper : Bool) (c : ℕ) (w w′ : Work) → w′ ≡ bidiagonal f floor z upper c w → SameLengths w w′
+  bidiagonal-kept upper c w w′ e = rw e (bidiagonal-lengths upper c w)
+
 -- ---- a sweep
 
 module _ (f : Format) (z : Shape) where

@@ -10,11 +10,14 @@ use lib.Ieee.{Float, binary64}
 use Rattle.method.specs.Work.{Work, Shape as Sizes}
 use Rattle.method.specs.Lengths.{SameLengths, onward, swept-lengths}
 use Rattle.method.specs.Chase.{negligible, swept}
-use Rattle.method.specs.Walk.{Rules, State, stands, run, afterDrop, afterSweep}
+use Rattle.method.specs.Walk.{Walk as Counts, Rules, State, stands, begun, run, afterDrop, afterSweep}
+use Rattle.method.specs.Walk.Counts.{walked-same, enough-most}
 use Rattle.method.specs.Walk.Run.{Going, narrow, spent}
 use Rattle.method.specs.Walk.Loop.{Room, Made, made-none, made-drop, made-sweep, made-moved, made-room, made-all, made-end}
-use Rattle.method.specs.Positions.{Placed, couplingPlace, counted, cornerDropped, counted-placed, dropped-placed}
-use Rattle.method.specs.Outcome.{rulesOf, Settings}
+use Rattle.method.specs.Positions.{Placed, couplingPlace, cornerStart, beginPlaced, counted, cornerDropped, counted-placed, dropped-placed}
+use Rattle.method.specs.Outcome.{rulesOf, card, isUpper, walkedFrom, Settings}
+use Rattle.method.specs.Bidiagonal.{bidiagonal}
+use lib.Dec.{lit<}
 use Rattle.svd.specs.Values.{counts, corner, Roomy, Lent, roomy-kept, u-kept, v-kept}
 use Rattle.svd.specs.declared.primitives.Walk.{Walk}
 
@@ -164,3 +167,38 @@ module _ {z : Sizes} {upper : Bool} {n : ℕ} {s : Settings} {first : Walk} {sta
 
   pub inv-spent : s .limit ≤ w .counter → stands (counts w) now ≡ asked
   inv-spent h = made-end (i .by) (i .within) (spent (s .limit) (counts w) h)
+
+-- ---- the whole walk
+
+-- the walk's first record, over a diagonal of c entries, has room for 146,000 passes
+pub first-standing :
+    (z : Sizes) (upper : Bool) (c : ℕ) (first : Walk) →
+    c ≤ z .rows →
+    c ≤ z .cols →
+    counts first ≡ begun c →
+    corner first ≡ cornerStart upper (z .stride) c →
+    Standing z upper 146000 first
+first-standing z upper c first hr hc ec eo =
+    record {
+      in-rows = rw (ap (λ (k : Counts). k .range) ec) hr;
+      in-cols = rw (ap (λ (k : Counts). k .range) ec) hc;
+      placed = rw eo (beginPlaced upper (z .stride) c);
+      room = rw ec (record { counter = lit< tt; passes = lit< tt; sweeps = lit< tt; drops = lit< tt });
+    }
+
+-- the bidiagonal form and then 146,000 passes at most are the definition's whole run
+pub decomposed :
+    (z : Sizes) (s : Settings) (w w₁ w₂ : Work) (c : ℕ) (first last : Counts) →
+    c ≡ card (z .rows) (z .cols) →
+    c ≤ 48 →
+    s .limit ≤ 100000 →
+    s .credit ≤ 1000 →
+    w₁ ≡ bidiagonal binary64 (s .floor) z (isUpper (z .rows) (z .cols)) c w →
+    first ≡ begun c →
+    stands last w₂ ≡
+    run (rulesOf binary64 z (isUpper (z .rows) (z .cols)) (s .tolerance) (s .absolute)) (s .limit) (s .credit) 146000 (stands first w₁) →
+    stands last w₂ ≡ walkedFrom binary64 z (z .rows) (z .cols) s w
+decomposed z s w w₁ w₂ c first last e few low paid e₁ ef e₂ =
+    rw (ef, e₁, e) at e₂
+    ∙ walked-same (rulesOf binary64 z (isUpper (z .rows) (z .cols)) (s .tolerance) (s .absolute)) (s .limit) (s .credit) (card (z .rows) (z .cols)) 146000 _
+    (enough-most (rw e at few) low paid)

@@ -125,3 +125,69 @@ fn first_refusal(
     }
     refuse(0, 0)
 }
+
+fn smaller_size(rows: usize, cols: usize) -> usize
+    requires { ⌜ (1 ≤ rows) × (1 ≤ cols) ⌝ }
+    ensures { λ r. ⌜ (r ≡ card rows cols) × (1 ≤ r) × (r ≤ rows) × (r ≤ cols) ⌝ }
+{
+    if cols <= rows { cols } else { rows }
+}
+
+// The bidiagonal form, and then the walk.
+fn decompose(b: &mut [f64], u: &mut [f64], v: &mut [f64], z: Shape, s: Settings) -> Walk
+    requires { ⌜ (1 ≤ z .rows) × (1 ≤ z .cols) × (s .limit ≤ 100000) × (s .credit ≤ 1000) × Roomy (sizes z) (now b) × Lent (z .rows) (z .urows) (now u) × Lent (z .cols) (z .vrows) (now v) ⌝ }
+    ensures { λ r. ⌜ stands (counts r) (work (now (b .exit)) (now (u .exit)) (now (v .exit))) ≡ walkedFrom binary64 (sizes z) (z .rows) (z .cols) (settingsOf s) (work (now (b .entry)) (now (u .entry)) (now (v .entry))) ⌝ }
+{
+    let upper = z.cols <= z.rows;
+    let card = smaller_size(z.rows, z.cols);
+    bidiagonal(b, u, v, z, upper, card, s.floor);
+    let first = Walk::new(upper, card, z.stride);
+    decomp_givens(b, u, v, z, upper, first, 146000, s)
+}
+
+// The split with U and V kept: each is multiplied from the right as it stands, so a caller who
+// wants the decomposition has them filled with the identity first.
+pub fn full_svd_decomposition(
+    b: &mut [f64],
+    u: &mut [f64],
+    v: &mut [f64],
+    rows: usize,
+    cols: usize,
+    settings: Settings,
+) -> Report
+    ensures { λ r. ⌜ outcomeOf (reportOf r) (work (now (b .exit)) (now (u .exit)) (now (v .exit))) ≡ fullOutcome binary64 rows cols (settingsOf settings) (work (now (b .entry)) (now (u .entry)) (now (v .entry))) ⌝ }
+{
+    let refusal = first_refusal(b, u, v, true, rows, cols, settings);
+    if refusal.number != 0 {
+        return Report::refused(refusal.number, refusal.place);
+    }
+    let z = Shape {
+        rows: rows,
+        cols: cols,
+        stride: cols,
+        urows: rows,
+        vrows: cols,
+    };
+    let walk = decompose(b, u, v, z, settings);
+    Report::accepted(walk)
+}
+// The split of the table alone.
+pub fn svd_decomposition(b: &mut [f64], rows: usize, cols: usize, settings: Settings) -> Report
+    ensures { λ r. ⌜ outcomeOf (reportOf r) (work (now (b .exit)) [] []) ≡ plainOutcome binary64 rows cols (settingsOf settings) (now (b .entry)) ⌝ }
+{
+    let mut u = [0.0f64; 0];
+    let mut v = [0.0f64; 0];
+    let refusal = first_refusal(b, &u, &v, false, rows, cols, settings);
+    if refusal.number != 0 {
+        return Report::refused(refusal.number, refusal.place);
+    }
+    let z = Shape {
+        rows: rows,
+        cols: cols,
+        stride: cols,
+        urows: 0,
+        vrows: 0,
+    };
+    let walk = decompose(b, &mut u, &mut v, z, settings);
+    Report::accepted(walk)
+}

@@ -1,0 +1,306 @@
+//! A fixed list of survey texts: well-formed ones, and ones damaged at each kind of place in each
+//! way that a rule speaks of.
+
+use crate::cases::{Draw, READINGS};
+use crate::survey::split;
+use crate::text::hexes;
+
+/// A survey as it is to be written: id, rows, columns, readings.
+type Survey = (usize, usize, usize, Vec<f64>);
+
+/// The surveys as a text.
+fn written(surveys: &[Survey]) -> Vec<u8> {
+    let mut text = format!("{}\n", surveys.len());
+    for (id, rows, cols, _) in surveys {
+        text += &format!("{id} {rows} {cols}\n");
+    }
+    for (_, _, cols, readings) in surveys {
+        for row in readings.chunks(*cols) {
+            text += &hexes(row);
+            text.push('\n');
+        }
+    }
+    text.into_bytes()
+}
+
+fn drawn(draw: &mut Draw, id: usize, rows: usize, cols: usize, kind: usize) -> Survey {
+    let reading = READINGS[kind % READINGS.len()];
+    let readings = (0..rows * cols).map(|_| reading(draw, 1e-21)).collect();
+    (id, rows, cols, readings)
+}
+
+/// The example of the rules.
+const EXAMPLE: &str = "1\n7 2 1\n4008000000000000\n4010000000000000\n";
+
+/// Two surveys, a 2 x 3 and a 2 x 1: the text that is damaged.
+const BASE: &str = "2\n31 2 3\n7 2 1\n\
+3FF0000000000000 4000000000000000 BFE0000000000000\n\
+4008000000000000 0000000000000000 3FF8000000000000\n\
+C010000000000000\n3FA999999999999A\n";
+
+/// Shapes, kinds of readings, counts and ids.
+fn well_formed(texts: &mut Vec<Vec<u8>>) {
+    let mut draw = Draw(0x7E57);
+    texts.push(EXAMPLE.into());
+    texts.push(BASE.into());
+    let shapes = [
+        (1, 1),
+        (1, 2),
+        (2, 1),
+        (2, 2),
+        (3, 3),
+        (4, 2),
+        (2, 5),
+        (5, 5),
+    ];
+    for (number, &(rows, cols)) in shapes.iter().cycle().take(40).enumerate() {
+        let id = [1, 9, 10, 65535, 256][number % 5];
+        texts.push(written(&[drawn(&mut draw, id, rows, cols, number / 5)]));
+    }
+    for (rows, cols) in [(1, 48), (48, 1), (48, 2), (2, 48), (12, 12)] {
+        texts.push(written(&[drawn(&mut draw, 300, rows, cols, 2)]));
+    }
+    texts.push(written(&[drawn(&mut draw, 65535, 48, 48, 2)]));
+    for many in 1..=8 {
+        let surveys: Vec<Survey> = (1..=many)
+            .map(|at| {
+                let (rows, cols) = (1 + draw.below(4) as usize, 1 + draw.below(4) as usize);
+                drawn(&mut draw, 10 * at + 1, rows, cols, at + many)
+            })
+            .collect();
+        texts.push(written(&surveys));
+    }
+    // Rank one, all ones and zeros: tables that stop.
+    for readings in [vec![1.0; 9], vec![0.0; 9], vec![-0.0; 9]] {
+        texts.push(written(&[(5, 3, 3, readings)]));
+    }
+}
+
+/// Readings that are infinite or NaN, at each place of a 2 x 3 and in one survey of several.
+fn bad_readings(texts: &mut Vec<Vec<u8>>) {
+    let mut draw = Draw(0xBAD);
+    let bad = [
+        0x7FF0_0000_0000_0000,
+        0xFFF0_0000_0000_0000,
+        0x7FF8_0000_0000_0000,
+        0xFFF8_0000_0000_0001,
+        0x7FF0_0000_0000_0001,
+        0xFFFF_FFFF_FFFF_FFFF,
+    ];
+    let hex = |survey: &Survey, at: usize, bits: u64| {
+        let text = String::from_utf8(written(std::slice::from_ref(survey))).unwrap();
+        let whole = hexes(&survey.3[at..=at]);
+        let mut seen = 0;
+        let words: Vec<String> = text
+            .split_inclusive([' ', '\n'])
+            .map(|word| {
+                let ended = word.len() == 17;
+                seen += usize::from(ended);
+                if ended && seen == at + 1 && word.starts_with(&whole) {
+                    format!("{bits:016X}{}", &word[16..])
+                } else {
+                    word.to_string()
+                }
+            })
+            .collect();
+        words.concat().into_bytes()
+    };
+    for (number, bits) in bad.into_iter().enumerate() {
+        let survey = drawn(&mut draw, 40 + number, 2, 3, 0);
+        texts.push(hex(&survey, number, bits));
+    }
+    let wide = drawn(&mut draw, 9, 12, 12, 2);
+    texts.push(hex(&wide, 143, bad[2]));
+    // The last finite patterns are no bad readings.
+    texts.push(b"1\n1 1 2\n7FEFFFFFFFFFFFFF FFEFFFFFFFFFFFFF\n".to_vec());
+    // Two bad ones: the first counts. Refused surveys before, between and after accepted ones.
+    let good = "3FF0000000000000";
+    let nan = "7FF8000000000000";
+    texts.push(format!("1\n8 1 3\n{good} {nan} 7FF0000000000000\n").into());
+    for places in ["100", "010", "001", "111", "101"] {
+        let mut text = "3\n8 1 1\n3 1 1\n5 1 1\n".to_string();
+        for place in places.bytes() {
+            text += if place == b'1' { nan } else { good };
+            text.push('\n');
+        }
+        texts.push(text.clone().into());
+        // And a line more than there should be.
+        texts.push(format!("{text}{good}\n").into());
+    }
+}
+
+/// The base cut at every byte.
+fn cut(texts: &mut Vec<Vec<u8>>) {
+    texts.extend((0..BASE.len()).map(|end| BASE.as_bytes()[..end].to_vec()));
+}
+
+/// One place of each kind: count, LF, id, space, rows, columns, the digits and the ends of a body.
+const PLACES: [usize; 18] = [
+    0, 1, 2, 3, 4, 5, 6, 7, 8, 14, 15, 22, 30, 31, 32, 65, 133, 150,
+];
+
+/// Each place with another byte, one byte more, and one less.
+fn bytes_wrong(texts: &mut Vec<Vec<u8>>) {
+    let wrong = b"\n\r\t \0/09:@AFG`afg+-.\x7f\x80\xff";
+    for place in PLACES.into_iter().filter(|&place| place < BASE.len()) {
+        for &byte in wrong {
+            let mut text = BASE.as_bytes().to_vec();
+            text[place] = byte;
+            texts.push(text);
+        }
+        for &byte in b"\n\r 0A" {
+            let mut text = BASE.as_bytes().to_vec();
+            text.insert(place, byte);
+            texts.push(text);
+        }
+        let mut text = BASE.as_bytes().to_vec();
+        text.remove(place);
+        texts.push(text);
+    }
+}
+
+/// Each line of the base changed as a whole.
+fn lines_wrong(texts: &mut Vec<Vec<u8>>) {
+    let lines: Vec<&str> = BASE.lines().collect();
+    for at in 0..=lines.len() {
+        let with = |new: Option<String>, kept: bool| {
+            let mut text = String::new();
+            for (number, line) in lines.iter().enumerate() {
+                if number == at {
+                    text += &new.clone().unwrap_or_default();
+                }
+                if number != at || kept {
+                    text += line;
+                    text.push('\n');
+                }
+            }
+            if at == lines.len() {
+                text += &new.unwrap_or_default();
+            }
+            text.into_bytes()
+        };
+        texts.push(with(Some("\n".into()), true));
+        texts.push(with(Some("1 1 1\n".into()), true));
+        texts.push(with(Some("3FF0000000000000\n".into()), true));
+        let Some(&line) = lines.get(at) else {
+            continue;
+        };
+        texts.push(with(None, false));
+        for new in [
+            format!("{line}\r\n"),
+            format!(" {line}\n"),
+            format!("{line} \n"),
+            format!("0{line}\n"),
+            line.replacen(' ', "  ", 1) + "\n",
+            line.replacen(' ', "\t", 1) + "\n",
+            line.to_lowercase() + "\n",
+            format!("{line}\n{line}\n"),
+            format!("{line} 3FF0000000000000\n"),
+            line.rsplit_once(' ')
+                .map_or("", |(most, _)| most)
+                .to_string()
+                + "\n",
+            format!("{}\n", &line[1..]),
+            format!("{}\n", &line[..line.len() - 1]),
+        ] {
+            texts.push(with(Some(new), false));
+        }
+    }
+}
+
+/// Numbers at, below and above their bounds.
+fn numbers(texts: &mut Vec<Vec<u8>>) {
+    let one = "3FF0000000000000";
+    let big = [
+        "99999999999999999",
+        "18446744073709551617",
+        "1e1",
+        "+1",
+        "-1",
+    ];
+    for count in ["", "0", "1", "01", "2", "8", "9", "10", "00", "1 "] {
+        texts.push(format!("{count}\n1 1 1\n{one}\n").into());
+    }
+    for count in big {
+        texts.push(format!("{count}\n1 1 1\n{one}\n").into());
+    }
+    let ids = ["0", "1", "01", "65535", "65536", "65537", "131071", "99999"];
+    for id in ids.into_iter().chain(big).chain(["4294967297"]) {
+        texts.push(format!("1\n{id} 1 1\n{one}\n").into());
+    }
+    for size in ["0", "1", "01", "48", "49", "048", "100"] {
+        let rows = format!("{one}\n").repeat(48);
+        texts.push(format!("1\n5 {size} 1\n{rows}").into());
+        let row = format!("{one} ").repeat(48);
+        texts.push(format!("1\n5 1 {size}\n{}\n", row.trim_end()).into());
+    }
+    for size in big {
+        texts.push(format!("1\n5 {size} 1\n{one}\n").into());
+        texts.push(format!("1\n5 1 {size}\n{one}\n").into());
+    }
+    // An id again: next to itself, and at the end of eight.
+    texts.push(format!("2\n5 1 1\n5 1 1\n{one}\n{one}\n").into());
+    for last in [1, 7, 8] {
+        let mut text = "8\n".to_string();
+        for id in (1..8).chain([last]) {
+            text += &format!("{id} 1 1\n");
+        }
+        text += &format!("{one}\n").repeat(8);
+        texts.push(text.clone().into());
+        texts.push(text.replacen('8', "7", 1).into());
+        texts.push(text.replacen('8', "9", 1).into());
+    }
+}
+
+/// Lines of 815 and 816 bytes, of each kind.
+fn long(texts: &mut Vec<Vec<u8>>) {
+    let one = "3FF0000000000000";
+    for bytes in [814, 815, 816, 817, 2000] {
+        let line = |start: &str, filler: &str| {
+            let mut line = start.to_string();
+            while line.len() < bytes {
+                line += filler;
+            }
+            line.truncate(bytes);
+            line
+        };
+        texts.push(format!("{}\n1 1 1\n{one}\n", line("1", "0")).into());
+        texts.push(format!("{}\n1 1 1\n{one}\n", line("", " ")).into());
+        texts.push(format!("1\n{}\n{one}\n", line("1 1 1", " ")).into());
+        texts.push(format!("1\n1 1 48\n{}\n", line("", "3FF0000000000000 ")).into());
+        texts.push(format!("1\n1 1 1\n{one}\n{}\n", line("", "0")).into());
+        texts.push(line("1\n1 1 1\n", "0").into());
+    }
+}
+
+/// The whole list.
+pub fn all() -> Vec<Vec<u8>> {
+    let mut texts = vec![Vec::new(), b"\n".to_vec(), b"\n\n".to_vec(), b"\0".to_vec()];
+    well_formed(&mut texts);
+    bad_readings(&mut texts);
+    cut(&mut texts);
+    bytes_wrong(&mut texts);
+    lines_wrong(&mut texts);
+    numbers(&mut texts);
+    long(&mut texts);
+    let mut kept: Vec<Vec<u8>> = Vec::new();
+    for text in texts {
+        if !kept.contains(&text) {
+            kept.push(text);
+        }
+    }
+    kept
+}
+
+/// The list as it is stored: the sizes of a text and of its answer, six digits and an LF each, then
+/// the text and the answer.
+pub fn stored() -> Vec<u8> {
+    let mut out = Vec::new();
+    for text in all() {
+        let answer = split(&text);
+        out.extend(format!("{:06}\n{:06}\n", text.len(), answer.len()).bytes());
+        out.extend(&text);
+        out.extend(answer.bytes());
+    }
+    out
+}

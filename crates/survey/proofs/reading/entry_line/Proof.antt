@@ -1,0 +1,98 @@
+-- `survey::reading::entry_line` meets its contract: a law for each way out. Assumes nothing.
+use mathlib.Core.Path.{sym, _∙_}
+use Prim.Native.Nat.{_<_}
+use native.Mathlib.Omega.{arith}
+use borrow.Author.Needs.{needs}
+use lib.Seq.{length-take-le}
+use lib.ListN.{length}
+use Rattle.survey.specs.Lines.{entry-none, entry-none-2, entry-id, entry-rows, entry-cols, entry-twice, entry-new}
+use Rattle.survey.proofs.reading.entry_line.Statement.{statement}
+use Rattle.survey.proofs.reading.entry_line.Tie as tie
+
+-- the first space is inside, and the second
+first : (c : tie.Else1) → c .before .find .result < length (c .before .before .before .args .l .now)
+first c = omega arith
+
+second : (c : tie.Else2) → c .before .find2 .result < length (c .before .before .before .before .before .args .l .now)
+second c = omega arith
+
+returns : tie.Need-returns
+returns c = entry-none _ _ _ (c .before .find .ensures .0) (c .if1 .taken)
+
+returns-2 : tie.Need-returns-2
+returns-2 c = entry-none-2 _ _ _ (c .before .before .before .find .ensures .0) (first (c .before .before)) _ (c .before .find2 .ensures .0) (c .if2 .taken)
+
+slice-aggregate-whole : tie.Need-slice-aggregate-whole
+slice-aggregate-whole c =
+    let h = c .before .before .before .before .find .ensures .1 in
+    sym (length-take-le _ _ h)
+
+returns-3 : tie.Need-returns-3
+returns-3 c =
+    let e2 = c .before .before .before in
+    let e1 = e2 .before .before in
+    let f1 = e1 .before .find .ensures .0 in
+    let f2 = e2 .before .find2 .ensures .0 in
+    entry-id _ _ _ f1 (first e1) _ f2 (second e2) _ (c .before .whole .ensures) (c .if3 .taken)
+
+returns-4 : tie.Need-returns-4
+returns-4 c =
+    let e2 = c .before .before .before .before .before .before in
+    let e1 = e2 .before .before in
+    let f1 = e1 .before .find .ensures .0 in
+    let f2 = e2 .before .find2 .ensures .0 in
+    entry-rows _ _ _ f1 (first e1) _ f2 (second e2) _ (c .before .before .before .before .whole .ensures) (c .before .before .before .if3 .left) _ (c .before .whole2 .ensures) (c .if4 .taken)
+
+returns-5 : tie.Need-returns-5
+returns-5 c =
+    let e2 = c .before .before .before .before .before .before .before .before .before in
+    let e1 = e2 .before .before in
+    let f1 = e1 .before .find .ensures .0 in
+    let f2 = e2 .before .find2 .ensures .0 in
+    entry-cols _ _ _ f1 (first e1) _ f2 (second e2) _ (c .before .before .before .before .before .before .before .whole .ensures) (c .before .before .before .before .before .before .if3 .left) _ (c .before .before .before .before .whole2 .ensures) (c .before .before .before .if4 .left)
+    _ (c .before .whole3 .ensures) (c .if5 .taken)
+
+returns-6 : tie.Need-returns-6
+returns-6 c =
+    let e2 = c .before .before .before .before .before .before .before .before .before .before .before in
+    let e1 = e2 .before .before in
+    let f1 = e1 .before .find .ensures .0 in
+    let f2 = e2 .before .find2 .ensures .0 in
+    entry-twice _ _ _ f1 (first e1) _ f2 (second e2) _ (c .before .before .before .before .before .before .before .before .before .whole .ensures) (c .before .before .before .before .before .before .before .before .if3 .left) _ (c .before .before .before .before .before .before .whole2 .ensures) (c .before .before .before .before .before .if4 .left)
+    _ (c .before .before .before .whole3 .ensures) (c .before .before .if5 .left) (sym (c .before .named .ensures) ∙ c .if6 .taken)
+
+returns-7 : tie.Need-returns-7
+returns-7 c =
+    let e2 = c .before .before .before .before .before .before .before .before .before .before .before in
+    let e1 = e2 .before .before in
+    let f1 = e1 .before .find .ensures .0 in
+    let f2 = e2 .before .find2 .ensures .0 in
+    entry-new _ _ _ f1 (first e1) _ f2 (second e2) _ (c .before .before .before .before .before .before .before .before .before .whole .ensures) (c .before .before .before .before .before .before .before .before .if3 .left) _ (c .before .before .before .before .before .before .whole2 .ensures) (c .before .before .before .before .before .if4 .left)
+    _ (c .before .before .before .whole3 .ensures) (c .before .before .if5 .left) (sym (c .before .named .ensures) ∙ c .if6 .left)
+
+pub entry-line-spec : {M : Type 1} → statement M
+entry-line-spec =
+    tie.close
+    (tie.spec
+    (λ c κs. search needs)
+    returns
+    (λ c. search needs)
+    (λ c κs. search needs)
+    returns-2
+    (λ c. search needs)
+    slice-aggregate-whole
+    (λ c κs. search needs)
+    returns-3
+    (λ c. search needs)
+    (λ c. search needs)
+    (λ c. search needs)
+    (λ c κs. search needs)
+    returns-4
+    (λ c. search needs)
+    (λ c. search needs)
+    (λ c. search needs)
+    (λ c κs. search needs)
+    returns-5
+    (λ c κs. search needs)
+    returns-6
+    returns-7)

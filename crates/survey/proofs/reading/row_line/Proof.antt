@@ -1,0 +1,112 @@
+-- `survey::reading::row_line` meets its contract: what is left of the line, stored from where reading stands, gives the whole row; the measure is how many readings are left. Assumes nothing.
+use mathlib.Core.Path.{_≡_, sym, _∙_}
+use Prim.Native.Nat.{_+_, _-_, _<_, _≤_}
+use native.Mathlib.Omega.{arith}
+use borrow.Author.Needs.{needs}
+use lib.ListN.{drop, length}
+use Rattle.survey.specs.Text.{when}
+use Rattle.survey.specs.Lines.{row-none, row-bad, row-next, row-last, row-last-bad, row-stored, is-some, is-none}
+use Rattle.survey.specs.Code.{rowInto}
+use Rattle.survey.proofs.reading.row_line.Statement.{statement}
+use Rattle.survey.proofs.reading.row_line.Tie as tie
+
+abbrev Inv-loop : tie.InvT-loop
+Inv-loop l c m₀ at p₀ k₀ m p k = (k ≤ c) × (p ≤ length l) × (rowInto (c - k) (drop p l) m (at + k) ≡ rowInto c l m₀ at)
+
+abbrev μ-loop : tie.MeasureT-loop
+μ-loop l c m₀ at p₀ k₀ m p k = c - k
+
+inside : (c : tie.Else1 Inv-loop μ-loop) → c .before .find .result < length (c .before .before .before .before .before .args .l .now)
+inside c = omega arith
+
+loop-holds : tie.Need-loop-holds Inv-loop μ-loop
+loop-holds c =
+    let n = c .before .args .c in
+    let a = c .before .args .at in
+    let y : n - 0 ≡ n = omega arith in
+    let z : a + 0 ≡ a = omega arith in
+    (omega arith, omega arith, rw (y, z))
+
+returns : tie.Need-returns Inv-loop μ-loop
+unfolding when
+returns c =
+    let fd = c .before in
+    let lp = c .before .before .before .loop in
+    sym (row-none _ _ _ _ _ _ _ (fd .find .ensures .0) (fd .before .loop-test .taken) (c .if1 .taken)) ∙ lp .inv .2 ∙ row-stored _ _ _ _
+
+enum-told : tie.Need-enum-told Inv-loop μ-loop
+enum-told c = search needs
+
+returns-2 : tie.Need-returns-2 Inv-loop μ-loop
+unfolding when
+returns-2 c =
+    let fd = c .before .before .before .before .before in
+    let lp = fd .before .before .loop in
+    sym (row-bad _ _ _ _ _ _ _ (fd .find .ensures .0) (fd .before .loop-test .taken) (inside (c .before .before .before .before)) (is-none _ (sym (c .enum-told .given .1) ∙ c .before .before .pattern .ensures)))
+    ∙ lp .inv .2 ∙ row-stored _ _ _ _
+
+loop-again : tie.Need-loop-again Inv-loop μ-loop
+loop-again c =
+    let fd = c .before .before .before .before .before .before .before in
+    let lp = fd .before .before .loop in
+    let h = inside (c .before .before .before .before .before .before) in (
+      omega arith,
+      omega (arith, h),
+      rw (c .float-of .ensures) (sym (row-next _ _ _ _ _ _ _ (fd .find .ensures .0) (fd .before .loop-test .taken) _ h (is-some _ _ (sym (c .before .before .b .given .1) ∙ c .before .before .before .before .pattern .ensures)))
+          ∙ lp .inv .2),
+    )
+
+returns-3 : tie.Need-returns-3 Inv-loop μ-loop
+unfolding when
+returns-3 c =
+    let lp = c .before .before .before .before .before .before .before .loop in
+    let ar = c .before .before .before .before .before .before .before .before .before .args in
+    let e : lp .k ≡ ar .c = omega arith in
+    rw (c .float-of2 .ensures) (sym (row-last (ar .l .now) (ar .c) (lp .k) (lp .p) (ar .at) (lp .m) e _ (is-some _ _ (sym (c .before .before .b2 .given .1) ∙ c .before .before .before .before .pattern2 .ensures)))
+    ∙ lp .inv .2 ∙ row-stored _ _ _ _)
+
+returns-4 : tie.Need-returns-4 Inv-loop μ-loop
+unfolding when
+returns-4 c =
+    let lp = c .before .before .before .before .before .loop in
+    let ar = c .before .before .before .before .before .before .before .args in
+    let e : lp .k ≡ ar .c = omega arith in
+    sym (row-last-bad (ar .l .now) (ar .c) (lp .k) (lp .p) (ar .at) (lp .m) e (is-none _ (sym (c .enum-told2 .given .1) ∙ c .before .before .pattern2 .ensures)))
+    ∙ lp .inv .2 ∙ row-stored _ _ _ _
+
+pub row-line-spec : {M : Type 1} → statement M
+row-line-spec =
+    tie.close
+    (tie.spec
+    Inv-loop
+    μ-loop
+    loop-holds
+    (λ c κs. search needs)
+    returns
+    (λ c. search needs)
+    (λ c. search needs)
+    (λ c. search needs)
+    (λ c κs. search needs)
+    (λ c. search needs)
+    (λ c κs. search needs)
+    (λ c. search needs)
+    (λ c. search needs)
+    (λ c. search needs)
+    enum-told
+    returns-2
+    (λ c. search needs)
+    (λ c. search needs)
+    (λ c. search needs)
+    loop-again
+    (λ c. search needs)
+    (λ c. search needs)
+    (λ c. search needs)
+    (λ c κs. search needs)
+    (λ c. search needs)
+    (λ c κs. search needs)
+    (λ c. search needs)
+    (λ c. search needs)
+    (λ c. search needs)
+    (λ c. search needs)
+    returns-3
+    returns-4)

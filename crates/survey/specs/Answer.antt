@@ -1,0 +1,113 @@
+-- What the plain call at default settings can say of a survey: it accepts, or it refuses by 8 with the place of the first reading that is not finite. Its
+-- numbers have few digits. Assumes nothing.
+use mathlib.Core.Path.{_≡_, refl, sym, subst, _∙_}
+use mathlib.Core.Bool.{Bool, true, false, true≢false, false≢true}
+use mathlib.Core.Logic.{⊎-elim}
+use mathlib.Core.List.{List, []}
+use Prim.Native.Nat.{ℕ, _+_, _*_, _<_, _≤_}
+use native.Mathlib.Omega.{arith}
+use native.Mathlib.Nat.{mul-le-mul}
+use borrow.Author.Tests.{eqb-true, eqb-false}
+use lib.Dec.{eqb}
+use lib.Ieee.{Float, nan, binary64, ofBits, lt}
+use lib.Ieee.Scale.{finite}
+use lib.ListN.{length, getD}
+use Rattle.method.specs.Work.{Work, work}
+use Rattle.method.specs.Outcome.{Report, Outcome, Refusal, outcomeOf, refusal, refused, refusalOf, plainOutcome, accepted}
+use Rattle.method.specs.Defaults.{defaults, defaultTolerance, defaultAbsolute, defaultFloor}
+use Rattle.method.specs.Outcome.Reports.{accepted-true, card-most}
+use Rattle.method.specs.Outcome.Refusals.{FirstBadAt, BadReading, NoSize, TooLarge, OverLimit, UnfitBounds, Past, numbers, firstBad-at, place-eight, place-other, refused-outcome, accepted-outcome}
+use Rattle.method.specs.Lengths.{outcome-lengths}
+use Rattle.survey.specs.Code.{Small}
+
+-- a table of a survey: 1 to 48 rows and columns, and all its readings
+pub record Table (rows cols : ℕ) (xs : List Float) : Type 0 where
+  pub rows-least : 1 ≤ rows
+  pub rows-most : rows ≤ 48
+  pub cols-least : 1 ≤ cols
+  pub cols-most : cols ≤ 48
+  pub size : length xs ≡ rows * cols
+
+module _ (rows cols : ℕ) (xs : List Float) (t : Table rows cols xs) where
+  abbrev given : Work
+  given = work xs [] []
+
+  abbrev why : Refusal
+  why = refusalOf false rows cols defaults given
+
+  abbrev said : Report
+  said = plainOutcome binary64 rows cols defaults xs .report
+
+  few : length xs ≤ 2304
+  few = let v : rows * cols ≤ 48 * 48 = mul-le-mul (t .rows-most) (t .cols-most) in omega (arith, t .size)
+
+  place-few : why .place < 2304 + 1
+  place-few = go (eqb (why .number) 8) refl
+    where
+      go : (b : Bool) → eqb (why .number) 8 ≡ b → why .place < 2304 + 1
+      go true e = omega (arith, few, place-eight false rows cols defaults given (eqb-true (why .number) 8 e) .inside)
+      go false e = omega (arith, place-other false rows cols defaults given (eqb-false (why .number) 8 e))
+
+  -- every number of the report has at most 6 digits
+  pub small : Small said
+  small = go (eqb (why .number) 0) refl
+    where
+      go : (b : Bool) → eqb (why .number) 0 ≡ b → Small said
+      go true e =
+          let a = accepted-true binary64 false rows cols defaults given (t .rows-least) (t .cols-least) in
+          let k = card-most rows cols (t .rows-most) (t .cols-most) in
+          subst (λ (o : Outcome). Small (o .report)) (sym (accepted-outcome binary64 false rows cols defaults given (eqb-true (why .number) 0 e))) record {
+            number = omega (arith, a .number);
+            place = omega (arith, a .place);
+            passes = omega (arith, a .few, k);
+            sweeps = omega (arith, a .few, a .each, k);
+            drops = omega (arith, a .drops, k);
+            range = omega (arith, a .range .1, k);
+          }
+      go false e =
+          subst (λ (o : Outcome). Small (o .report)) (sym (refused-outcome binary64 false rows cols defaults given (eqb-false (why .number) 0 e))) record {
+            number = omega (arith, numbers false rows cols defaults given .most);
+            place = omega (arith, place-few);
+            passes = omega arith;
+            sweeps = omega arith;
+            drops = omega arith;
+            range = omega arith;
+          }
+
+  -- the matrix is as long as it was
+  pub same-size : length (plainOutcome binary64 rows cols defaults xs .held .matrix) ≡ length xs
+  same-size = outcome-lengths binary64 false rows cols defaults given .matrix
+
+  -- ---- which of the two it says
+
+  fit-size : NoSize rows cols → ⊥
+  fit-size z = ⊎-elim (λ e. omega (arith, e, t .rows-least)) (λ e. omega (arith, e, t .cols-least)) z
+
+  fit-large : TooLarge rows cols → ⊥
+  fit-large z = ⊎-elim (λ e. omega (arith, e, t .rows-most)) (λ e. omega (arith, e, t .cols-most)) z
+
+  fit-limit : OverLimit defaults → ⊥
+  fit-limit z = ⊎-elim (λ e. omega (arith, e)) (λ e. omega (arith, e)) z
+
+  fit-bounds : UnfitBounds defaults → ⊥
+  unfolding ofBits lt defaultTolerance defaultAbsolute defaultFloor
+  fit-bounds z = ⊎-elim (λ e. true≢false e) (λ y. ⊎-elim (λ e. true≢false e) (λ e. true≢false e) y) z
+
+  past : Past 7 false rows cols defaults given
+  past = (fit-size, (fit-large, (λ z. z (t .size), (λ z. false≢true (z .0), (λ z. false≢true (z .0), (fit-limit, (fit-bounds, tt)))))))
+
+  -- where every reading is finite the call accepts,
+  pub accepts : ((k : ℕ) → k < length xs → finite (getD xs k nan) ≡ true) → plainOutcome binary64 rows cols defaults xs ≡ accepted binary64 false rows cols defaults given
+  accepts all =
+      let no : BadReading xs → ⊥ = λ b. true≢false (sym (all (b .at) (b .inside)) ∙ b .bad) in
+      accepted-outcome binary64 false rows cols defaults given (numbers false rows cols defaults given .accepted .1
+      (fit-size, (fit-large, (λ z. z (t .size), (λ z. false≢true (z .0), (λ z. false≢true (z .0), (fit-limit, (fit-bounds, (no, tt)))))))))
+
+  -- and where one is not, it refuses by 8 with the place of the first, and leaves the readings as they were
+  pub refuses : (p : ℕ) → FirstBadAt xs p → plainOutcome binary64 rows cols defaults xs ≡ outcomeOf (refused (refusal 8 p)) given
+  refuses p b =
+      let n : why .number ≡ 8 = numbers false rows cols defaults given .eight .1 (record { at = p; inside = b .inside; bad = b .bad }, past) in
+      let f = place-eight false rows cols defaults given n in
+      let q : why .place ≡ p = sym (firstBad-at xs (why .place) (f .before) (f .inside) (f .bad)) ∙ firstBad-at xs p (b .before) (b .inside) (b .bad) in
+      let o = refused-outcome binary64 false rows cols defaults given (λ z. omega (arith, n, z)) in
+      rw (n, q) at o

@@ -1,0 +1,40 @@
+-- 01's own example, whole, by computing; and the same text without its last LF. Assumes nothing.
+use mathlib.Core.Path.{_≡_, refl}
+use mathlib.Core.List.{[], _∷_, _++_}
+use lib.Ieee.{neg, add, sub, mul, div, lt, eq, isNan, ofBits, toBits}
+use Rattle.method.specs.Floats.{magnitude, signOf, smaller, larger}
+use Rattle.method.specs.Root.{squareRoot}
+use Rattle.method.specs.Turns.{go, turns}
+use Rattle.method.specs.Rotation.{rotationOf, pairTurned, rowsTurned, columnsTurned}
+use Rattle.method.specs.Reflection.{largestOf, scaled, cleared, squaresOf, tailTimes, reflectionOf, rowTimes, tailLess, rowLess, rowReflected, reflectedRight, rowCopied, rowAdded, rowsAdded, columnSums, allTimes, rowLessAll, rowLessTimes, lowerLess, rowsLess, reflectedLeft}
+use Rattle.method.specs.Bidiagonal.{columnCopied, columnCleared, columnMatrix, rowMatrix, factorReflected, columnZeroed, rowZeroed, placesZeroed, bidiagonal}
+use Rattle.method.specs.Chase.{turned, singular, negligible, steps, swept}
+use Rattle.method.specs.Walk.{pass, run}
+use Rattle.method.specs.Outcome.{firstOf, firstBad, accepted, outcome}
+use Rattle.method.specs.Defaults.{defaultTolerance, defaultAbsolute, defaultFloor}
+use Rattle.survey.specs.Text.{Bytes, LF, space, _>>=_, when, cut, worth, value, decimal, number, pattern, digit, digits, placesBy, shown, ending, lineText}
+use Rattle.survey.specs.Form.{countLine, named, entryLine, rowLine, short, line, andThen, contents, head, body, bodies, reading}
+use Rattle.survey.specs.Print.{hex, rowText, rowsText, refusedWord, reportText, refusedText, outcomeText, surveyText, surveysText, refusalText, printed, split}
+
+-- twelve zeros
+abbrev twelve : Bytes
+twelve = 48 ∷ 48 ∷ 48 ∷ 48 ∷ 48 ∷ 48 ∷ 48 ∷ 48 ∷ 48 ∷ 48 ∷ 48 ∷ 48 ∷ []
+
+-- 1, then 7 2 1, then 4008000000000000, and 4010000000000000 without its LF
+abbrev unended : Bytes
+unended = (49 ∷ LF ∷ []) ++ (55 ∷ space ∷ 50 ∷ space ∷ 49 ∷ LF ∷ []) ++ (52 ∷ 48 ∷ 48 ∷ 56 ∷ []) ++ twelve ++ (LF ∷ 52 ∷ 48 ∷ 49 ∷ 48 ∷ []) ++ twelve
+
+-- 7 settled 0 0 0 1, then C014000000000000 and 0000000000000000
+abbrev answer : Bytes
+answer =
+    (55 ∷ space ∷ 115 ∷ 101 ∷ 116 ∷ 116 ∷ 108 ∷ 101 ∷ 100 ∷ space ∷ 48 ∷ space ∷ 48 ∷ space ∷ 48 ∷ space ∷ 49 ∷ LF ∷ [])
+    ++ (67 ∷ 48 ∷ 49 ∷ 52 ∷ []) ++ twelve ++ (LF ∷ 48 ∷ 48 ∷ 48 ∷ 48 ∷ []) ++ twelve ++ (LF ∷ [])
+
+pub example : split (unended ++ (LF ∷ [])) ≡ answer
+unfolding ofBits toBits neg add sub mul div lt eq isNan magnitude signOf smaller larger squareRoot go turns rotationOf pairTurned rowsTurned columnsTurned largestOf scaled cleared squaresOf tailTimes reflectionOf rowTimes tailLess rowLess rowReflected reflectedRight rowCopied rowAdded rowsAdded columnSums allTimes rowLessAll rowLessTimes lowerLess rowsLess reflectedLeft columnCopied columnCleared columnMatrix rowMatrix factorReflected columnZeroed rowZeroed placesZeroed bidiagonal turned singular negligible steps swept pass run firstOf firstBad accepted outcome defaultTolerance defaultAbsolute defaultFloor _>>=_ when cut worth value decimal number pattern digit digits placesBy shown ending lineText countLine named entryLine rowLine short line andThen contents head body bodies reading hex rowText rowsText reportText refusedText outcomeText surveyText surveysText refusalText printed split
+example = refl
+
+-- without the last LF line 4 is malformed, and nothing else is printed: refused 9 4
+pub example-unended : split unended ≡ refusedWord ++ (space ∷ 57 ∷ space ∷ 52 ∷ LF ∷ [])
+unfolding ofBits toBits neg add sub mul div lt eq isNan magnitude signOf smaller larger squareRoot go turns rotationOf pairTurned rowsTurned columnsTurned largestOf scaled cleared squaresOf tailTimes reflectionOf rowTimes tailLess rowLess rowReflected reflectedRight rowCopied rowAdded rowsAdded columnSums allTimes rowLessAll rowLessTimes lowerLess rowsLess reflectedLeft columnCopied columnCleared columnMatrix rowMatrix factorReflected columnZeroed rowZeroed placesZeroed bidiagonal turned singular negligible steps swept pass run firstOf firstBad accepted outcome defaultTolerance defaultAbsolute defaultFloor _>>=_ when cut worth value decimal number pattern digit digits placesBy shown ending lineText countLine named entryLine rowLine short line andThen contents head body bodies reading hex rowText rowsText reportText refusedText outcomeText surveyText surveysText refusalText printed split
+example-unended = refl

@@ -1,0 +1,83 @@
+// The survey text, and what the program `split` prints of it.
+ghost use mathlib.Core.Path.{_≡_};
+ghost use mathlib.Core.List.{[]};
+ghost use Prim.Native.Nat.{_+_, _*_, _<_, _≤_};
+ghost use lib.ListN.{length, take};
+ghost use lib.Ieee.{binary64};
+ghost use Rattle.method.specs.Work.{work};
+ghost use Rattle.method.specs.Outcome.{outcomeOf, plainOutcome};
+ghost use Rattle.method.specs.Defaults.{defaults};
+ghost use Rattle.svd.specs.Values.{reportOf};
+ghost use Rattle.survey.specs.Print.{surveyText, split};
+ghost use Rattle.survey.specs.Text.{Written};
+ghost use Rattle.survey.specs.Code.{surveyOf};
+ghost use Rattle.survey.specs.Found.{InRange};
+use crate::reading::Entry;
+use crate::reading::body;
+use crate::reading::contents;
+use crate::writing::put_outcome;
+use crate::writing::put_refusal;
+use svd::report::Report;
+use svd::settings::Settings;
+
+mod numerals;
+mod reading;
+mod writing;
+
+// The plain call at default settings on the first rows x cols readings of m.
+fn decomposed(m: &mut [f64], rows: usize, cols: usize) -> Report
+    requires { ⌜ (rows ≤ 48) × (cols ≤ 48) × (rows * cols ≤ length (now m)) ⌝ }
+    ensures { λ r. ⌜ (outcomeOf (reportOf r) (work (take (rows * cols) (now (m .exit))) [] [])
+        ≡ plainOutcome binary64 rows cols defaults (take (rows * cols) (now (m .entry)))) × (length (now (m .exit)) ≡ length (now (m .entry))) ⌝ }
+{
+    let n = rows * cols;
+    svd::interface::svd_decomposition(&mut m[..n], rows, cols, Settings::new())
+}
+
+// What is printed of the survey whose readings stand first in m.
+fn put_survey(out: &mut [u8; 314000], at: usize, e: Entry, m: &mut [f64]) -> usize
+    requires { ⌜ InRange e × (length (now m) ≡ 2304) × (at + 39211 ≤ 314000) ⌝ }
+    ensures { λ r. ⌜ Written (now (out .entry)) at (surveyText (surveyOf e (take (e .rows * e .cols) (now (m .entry))))) (now (out .exit)) r
+        × (r ≤ at + 39211) × (length (now (m .exit)) ≡ 2304) ⌝ }
+{
+    let rows = e.rows;
+    let cols = e.cols;
+    let report = decomposed(m, rows, cols);
+    put_outcome(out, at, e, report, m)
+}
+
+// The whole of what `split` prints of the bytes `text`, written into out from its first byte on, where there is always room; how many bytes it has. What
+// follows them in out stays as it was.
+pub fn split_text(text: &[u8], out: &mut [u8; 314000]) -> usize
+    ensures { λ r. ⌜ Written (now (out .entry)) 0 (split (now (text .entry))) (now (out .exit)) r × (r ≤ 314000) ⌝ }
+{
+    let h = contents(text);
+    let es = h.es;
+    let count = h.count;
+    let mut line = h.line;
+    let mut p = h.at;
+    if count == 0 {
+        return put_refusal(out, 0, line);
+    }
+    let mut m = [0.0; 2304];
+    let mut q = 0;
+    let mut i = 0;
+    while i < count {
+        let e = es[i];
+        let rows = e.rows;
+        let cols = e.cols;
+        let b = body(text, p, line, rows, cols - 1, &mut m);
+        if b.ok {
+            q = put_survey(out, q, e, &mut m);
+            p = b.at;
+            line = b.line;
+            i += 1;
+        } else {
+            return put_refusal(out, q, b.line);
+        }
+    }
+    if p < text.len() {
+        return put_refusal(out, q, line);
+    }
+    q
+}

@@ -1,0 +1,22 @@
+-- Refused, or the whole run. Assumes nothing.
+use borrow.Author.Needs.{needs}
+use mathlib.Core.Path.{refl}
+use mathlib.Core.Bool.{true, false}
+use mathlib.Core.List.{[]}
+use Rattle.method.specs.Work.{work}
+use Rattle.svd.specs.Values.{settingsOf, refusalIn, reportOf, counts}
+use Rattle.svd.specs.Checks.{refused-call, accepted-call, call-fit, fit-roomy, lent-whole, lent-none}
+use Rattle.svd.proofs.interface.full_svd_decomposition.Statement.{statement}
+use Rattle.svd.proofs.interface.full_svd_decomposition.Tie as tie
+
+returns : tie.Need-returns
+returns c = refused-call true (c .before .before .before .before .before .before .before .before .before .before .args .rows) (c .before .before .before .before .before .before .before .before .before .before .args .cols) (settingsOf (c .before .before .before .before .before .before .before .before .before .before .args .settings)) (work (c .before .before .before .before .before .before .before .before .before .before .args .b .now) (c .before .before .before .before .before .before .before .before .before .before .args .u .now) (c .before .before .before .before .before .before .before .before .before .before .args .v .now)) _ _ (c .before .before .before .first-refusal .ensures) (c .before .if1 .taken) (c .refused .ensures)
+
+decompose-requires : tie.Need-decompose-requires
+decompose-requires c κs = let f = call-fit true (c .before .before .before .before .before .before .before .before .before .before .before .before .args .rows) (c .before .before .before .before .before .before .before .before .before .before .before .before .args .cols) (settingsOf (c .before .before .before .before .before .before .before .before .before .before .before .before .args .settings)) (work (c .before .before .before .before .before .before .before .before .before .before .before .before .args .b .now) (c .before .before .before .before .before .before .before .before .before .before .before .before .args .u .now) (c .before .before .before .before .before .before .before .before .before .before .before .before .args .v .now)) _ (c .before .before .before .before .before .first-refusal .ensures) (c .before .before .before .if1 .left) in (f .rows-some, f .cols-some, f .limit-low, f .credit-low, fit-roomy true (c .before .before .before .before .before .before .before .before .before .before .before .before .args .rows) (c .before .before .before .before .before .before .before .before .before .before .before .before .args .cols) (settingsOf (c .before .before .before .before .before .before .before .before .before .before .before .before .args .settings)) (work (c .before .before .before .before .before .before .before .before .before .before .before .before .args .b .now) (c .before .before .before .before .before .before .before .before .before .before .before .before .args .u .now) (c .before .before .before .before .before .before .before .before .before .before .before .before .args .v .now)) f, lent-whole _ _ (f .rows-few) (f .u-length refl), lent-whole _ _ (f .cols-few) (f .v-length refl))
+
+returns-2 : tie.Need-returns-2
+returns-2 c = accepted-call true (c .before .before .before .before .before .before .before .before .before .before .before .before .before .before .before .before .before .before .before .before .args .rows) (c .before .before .before .before .before .before .before .before .before .before .before .before .before .before .before .before .before .before .before .before .args .cols) (settingsOf (c .before .before .before .before .before .before .before .before .before .before .before .before .before .before .before .before .before .before .before .before .args .settings)) (work (c .before .before .before .before .before .before .before .before .before .before .before .before .before .before .before .before .before .before .before .before .args .b .now) (c .before .before .before .before .before .before .before .before .before .before .before .before .before .before .before .before .before .before .before .before .args .u .now) (c .before .before .before .before .before .before .before .before .before .before .before .before .before .before .before .before .before .before .before .before .args .v .now)) _ _ _ _ (c .before .before .before .before .before .before .before .before .before .before .before .before .before .first-refusal .ensures) (c .before .before .before .before .before .before .before .before .before .before .before .if1 .left) (c .accepted .ensures) (c .before .before .before .before .before .before .before .decompose .ensures)
+
+pub full-svd-decomposition-spec : {M : Type 1} → statement M
+full-svd-decomposition-spec = tie.close (tie.spec (λ c κs. search needs) (λ c κs. search needs) (λ c. search needs) (λ c. search needs) (λ c. search needs) returns decompose-requires (λ c κs. search needs) (λ c. search needs) (λ c. search needs) (λ c. search needs) returns-2)

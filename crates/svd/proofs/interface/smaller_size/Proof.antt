@@ -1,0 +1,16 @@
+-- By the test. Assumes nothing.
+use borrow.Author.Needs.{needs}
+use mathlib.Core.Path.{_≡_, refl, ap, _∙_}
+use native.Mathlib.Omega.{arith}
+use borrow.Author.Tests.{le-leb, lt-leb}
+use Rattle.svd.proofs.interface.smaller_size.Statement.{statement}
+use Rattle.svd.proofs.interface.smaller_size.Tie as tie
+
+returns : tie.Need-returns
+returns c = (rw (le-leb _ _ (c .if1 .taken)) refl, omega arith, omega arith, omega arith)
+
+returns-2 : tie.Need-returns-2
+returns-2 c = (rw (lt-leb _ _ (c .if1 .left)) refl, omega arith, omega arith, omega arith)
+
+pub smaller-size-spec : {M : Type 1} → statement M
+smaller-size-spec = tie.close (tie.spec returns returns-2)

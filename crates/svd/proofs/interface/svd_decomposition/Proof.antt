@@ -1,0 +1,22 @@
+-- Refused, or the whole run with no rows of U and V. Assumes nothing.
+use borrow.Author.Needs.{needs}
+use mathlib.Core.Path.{refl}
+use mathlib.Core.Bool.{true, false}
+use mathlib.Core.List.{[]}
+use Rattle.method.specs.Work.{work}
+use Rattle.svd.specs.Values.{settingsOf}
+use Rattle.svd.specs.Checks.{refused-call, accepted-call, call-fit, fit-roomy, lent-none, plain-call}
+use Rattle.svd.proofs.interface.svd_decomposition.Statement.{statement}
+use Rattle.svd.proofs.interface.svd_decomposition.Tie as tie
+
+returns : tie.Need-returns
+returns c = refused-call false (c .before .before .before .before .before .before .before .before .args .rows) (c .before .before .before .before .before .before .before .before .args .cols) (settingsOf (c .before .before .before .before .before .before .before .before .args .settings)) (work (c .before .before .before .before .before .before .before .before .args .b .now) [] []) _ _ (c .before .before .before .first-refusal .ensures) (c .before .if1 .taken) (c .refused .ensures)
+
+decompose-requires : tie.Need-decompose-requires
+decompose-requires c κs = let f = call-fit false (c .before .before .before .before .before .before .before .before .before .before .args .rows) (c .before .before .before .before .before .before .before .before .before .before .args .cols) (settingsOf (c .before .before .before .before .before .before .before .before .before .before .args .settings)) (work (c .before .before .before .before .before .before .before .before .before .before .args .b .now) [] []) _ (c .before .before .before .before .before .first-refusal .ensures) (c .before .before .before .if1 .left) in (f .rows-some, f .cols-some, f .limit-low, f .credit-low, fit-roomy false (c .before .before .before .before .before .before .before .before .before .before .args .rows) (c .before .before .before .before .before .before .before .before .before .before .args .cols) (settingsOf (c .before .before .before .before .before .before .before .before .before .before .args .settings)) (work (c .before .before .before .before .before .before .before .before .before .before .args .b .now) [] []) f, lent-none _ _, lent-none _ _)
+
+returns-2 : tie.Need-returns-2
+returns-2 c = plain-call (c .before .before .before .before .before .before .before .before .before .before .before .before .before .before .before .before .args .rows) (c .before .before .before .before .before .before .before .before .before .before .before .before .before .before .before .before .args .cols) (settingsOf (c .before .before .before .before .before .before .before .before .before .before .before .before .before .before .before .before .args .settings)) _ (c .before .before .before .before .before .before .before .before .before .before .before .before .before .before .before .before .args .b .now) _ _ _ (accepted-call false (c .before .before .before .before .before .before .before .before .before .before .before .before .before .before .before .before .args .rows) (c .before .before .before .before .before .before .before .before .before .before .before .before .before .before .before .before .args .cols) (settingsOf (c .before .before .before .before .before .before .before .before .before .before .before .before .before .before .before .before .args .settings)) (work (c .before .before .before .before .before .before .before .before .before .before .before .before .before .before .before .before .args .b .now) [] []) _ _ _ _ (c .before .before .before .before .before .before .before .before .before .before .before .first-refusal .ensures) (c .before .before .before .before .before .before .before .before .before .if1 .left) (c .accepted .ensures) (c .before .before .before .before .before .decompose .ensures))
+
+pub svd-decomposition-spec : {M : Type 1} → statement M
+svd-decomposition-spec = tie.close (tie.spec (λ c. search needs) (λ c. search needs) (λ c κs. search needs) (λ c κs. search needs) (λ c. search needs) returns (λ c. search needs) (λ c. search needs) decompose-requires (λ c κs. search needs) (λ c. search needs) returns-2)
