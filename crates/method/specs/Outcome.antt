@@ -2,6 +2,7 @@
 -- were, or the accepted run's report and lists. Definitions only.
 pub mod Reports
 pub mod Refusals
+pub mod Calls
 use mathlib.Core.Bool.{Bool, true, false, not, _&&_, _||_}
 use mathlib.Core.List.{List, [], _∷_}
 use Prim.Native.Nat.{ℕ, suc, _+_, _-_, _*_}

@@ -1,0 +1,65 @@
+-- The report's laws as laws of the calls, refusals counted in: what the accumulating call accepts the plain call accepts, with the same report and matrix;
+-- and a settled answer is the same answer at every greater allowed limit. Assumes nothing.
+use mathlib.Core.Path.{_≡_}
+use mathlib.Core.Logic.{_⊎_, inl, inr}
+use mathlib.Core.Bool.{Bool, true, false}
+use mathlib.Core.List.{[]}
+use Prim.Native.Nat.{ℕ, _≤_, _<_}
+use native.Mathlib.Nat.{le-trans}
+use native.Mathlib.Omega.{arith}
+use lib.Ieee.{Format}
+use Rattle.method.specs.Work.{Work, work}
+use Rattle.method.specs.Walk.Counts.{enough-most}
+use Rattle.method.specs.Outcome.{Settings, settled, refusalOf, outcome, plainOutcome, fullOutcome}
+use Rattle.method.specs.Outcome.Refusals.{numbers, fit, accepted-outcome}
+use Rattle.method.specs.Outcome.Reports.{accepted-true, accepted-agree, accepted-settled, atLimit, card-most}
+
+false-true : false ≡ true → ⊥
+false-true p = let z : _≡_ {A = ℕ} 0 1 = cc in omega arith
+
+-- the plain call asks less than the accumulating one
+pub plain-accepts : (rows cols : ℕ) (s : Settings) (w : Work) → refusalOf true rows cols s w .number ≡ 0 → refusalOf false rows cols s (work (w .matrix) [] []) .number ≡ 0
+plain-accepts rows cols s w e =
+    let p = numbers true rows cols s w .accepted .0 e in
+    numbers false rows cols s (work (w .matrix) [] []) .accepted .1
+    (p .0, (p .1 .0, (p .1 .1 .0, ((λ q. false-true (q .0)), ((λ q. false-true (q .0)), (p .1 .1 .1 .1 .1 .0, (p .1 .1 .1 .1 .1 .1 .0, (p .1 .1 .1 .1 .1 .1 .1 .0, tt))))))))
+
+-- with U and V kept or not, an accepted run has the same report and the same matrix
+pub calls-agree :
+    (f : Format) (rows cols : ℕ) (s : Settings) (w : Work) →
+    refusalOf true rows cols s w .number ≡ 0 →
+    (fullOutcome f rows cols s w .report ≡ plainOutcome f rows cols s (w .matrix) .report)
+    × (fullOutcome f rows cols s w .held .matrix ≡ plainOutcome f rows cols s (w .matrix) .held .matrix)
+calls-agree f rows cols s w e =
+    rw (accepted-outcome f true rows cols s w e, accepted-outcome f false rows cols s (work (w .matrix) [] []) (plain-accepts rows cols s w e))
+    (accepted-agree f rows cols s w)
+
+-- another allowed limit is not refused where this one is not
+pub limit-accepts : (kept : Bool) (rows cols : ℕ) (s : Settings) (w : Work) (n : ℕ) → n ≤ 100000 → refusalOf kept rows cols s w .number ≡ 0 → refusalOf kept rows cols (atLimit n s) w .number ≡ 0
+limit-accepts kept rows cols s w n h e =
+    let p = numbers kept rows cols s w .accepted .0 e in
+    numbers kept rows cols (atLimit n s) w .accepted .1
+    (p .0, (p .1 .0, (p .1 .1 .0, (p .1 .1 .1 .0, (p .1 .1 .1 .1 .0, (low (p .1 .1 .1 .1 .1 .0), (p .1 .1 .1 .1 .1 .1 .0, (p .1 .1 .1 .1 .1 .1 .1 .0, tt))))))))
+  where
+    low : ((100000 < s .limit) ⊎ (1000 < s .credit) → ⊥) → (100000 < n) ⊎ (1000 < s .credit) → ⊥
+    low k (inl l) = omega arith
+    low k (inr l) = k (inr l)
+
+-- a settled answer, U and V included, is the same answer at every greater allowed limit
+pub settled-stays :
+    (f : Format) (kept : Bool) (rows cols : ℕ) (s : Settings) (w : Work) (n : ℕ) →
+    s .limit ≤ n →
+    n ≤ 100000 →
+    refusalOf kept rows cols s w .number ≡ 0 →
+    outcome f kept rows cols s w .report .word ≡ settled →
+    outcome f kept rows cols (atLimit n s) w ≡ outcome f kept rows cols s w
+settled-stays f kept rows cols s w n h most e q =
+    rw (accepted-outcome f kept rows cols (atLimit n s) w (limit-accepts kept rows cols s w n most e), accepted-outcome f kept rows cols s w e)
+    (accepted-settled f kept rows cols s w n h (rw (accepted-outcome f kept rows cols s w e) at q))
+
+-- the passes of an accepted run are at most 146,000
+pub passes-most : (f : Format) (kept : Bool) (rows cols : ℕ) (s : Settings) (w : Work) → refusalOf kept rows cols s w .number ≡ 0 → outcome f kept rows cols s w .report .passes ≤ 146000
+passes-most f kept rows cols s w e =
+    let k = fit kept rows cols s w e in
+    rw (accepted-outcome f kept rows cols s w e)
+    (le-trans (accepted-true f kept rows cols s w (k .rows-some) (k .cols-some) .few) (enough-most (card-most rows cols (k .rows-few) (k .cols-few)) (k .limit-low) (k .credit-low)))
