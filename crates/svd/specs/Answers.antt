@@ -91,7 +91,7 @@ pub fill-one :
     (n : ℕ) (a : List Float) (r r′ : ℕ) (l l′ : List Float) → filled r l ≡ fillOutcome n a → filled r′ l′ ≡ fillOutcome n a → (r ≡ r′) × (l ≡ l′)
 fill-one n a r r′ l l′ e e′ = let d = e ∙ sym e′ in (ap (λ (x : Filled). x .number) d, ap (λ (x : Filled). x .list) d)
 
--- the entries of the view; where they lie is no part of its value
+-- the entries of the view; where they lie its promise says outright
 pub view-one :
     (rows cols : ℕ) (u v : List Float) (side k : ℕ) (l l′ : List Float) → l ≡ rowViewed rows cols u v side k → l′ ≡ rowViewed rows cols u v side k → l ≡ l′
 view-one rows cols u v side k l l′ e e′ = e ∙ sym e′

@@ -1,5 +1,7 @@
 // The row view: a row of U or of V where it lies, without a copy.
 ghost use mathlib.Core.Path.{_≡_};
+ghost use mathlib.Core.Bool.{true, false};
+ghost use Prim.Native.Nat.{_+_, _*_};
 ghost use Rattle.method.specs.Outcome.{viewFit, rowViewed};
 
 // Whether sizes, lengths, side and row are fit.
@@ -44,7 +46,10 @@ pub fn row_view<'a>(
     side: usize,
     row: usize,
 ) -> &'a [f64]
-    ensures { λ r. ⌜ now r ≡ rowViewed rows cols (now (u .entry)) (now (v .entry)) side row ⌝ }
+    ensures entries { λ r. ⌜ now r ≡ rowViewed rows cols (now (u .entry)) (now (v .entry)) side row ⌝ }
+    ensures place { λ r. ⌜ ((viewFit rows cols (now (u .entry)) (now (v .entry)) side row ≡ false → (r .ptr .0 ≡ u .entry .ptr .0) × (r .ptr .1 ≡ u .entry .ptr .1))
+        × (viewFit rows cols (now (u .entry)) (now (v .entry)) side row ≡ true → side ≡ 0 → (r .ptr .0 ≡ u .entry .ptr .0) × (r .ptr .1 ≡ u .entry .ptr .1 + row * rows * 8))
+        × (viewFit rows cols (now (u .entry)) (now (v .entry)) side row ≡ true → (side ≡ 0 → ⊥) → (r .ptr .0 ≡ v .entry .ptr .0) × (r .ptr .1 ≡ v .entry .ptr .1 + row * cols * 8))) ⌝ }
 {
     if !view_fit(rows, cols, u, v, side, row) {
         return &u[0..0];
