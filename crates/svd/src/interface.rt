@@ -177,9 +177,9 @@ pub fn svd_decomposition(b: &mut [f64], rows: usize, cols: usize, settings: Sett
 {
     let mut u = [0.0f64; 0];
     let mut v = [0.0f64; 0];
-    let refusal = first_refusal(b, &u, &v, false, rows, cols, settings);
-    if refusal.number != 0 {
-        return Report::refused(refusal.number, refusal.place);
+    let unfit = first_refusal(b, &u, &v, false, rows, cols, settings);
+    if unfit.number != 0 {
+        return Report::refused(unfit.number, unfit.place);
     }
     let z = Shape {
         rows: rows,
