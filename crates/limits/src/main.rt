@@ -157,156 +157,37 @@ fn sizes() {
     );
 }
 
-fn counts() {
-    plain(b"plain limit 0", 2, 2, 4, 2.0, 1.0, settings(0, 1e-10));
-    plain(
-        b"plain limit 0 on zeros",
-        2,
-        2,
-        4,
-        0.0,
-        0.0,
-        settings(0, 1e-10),
-    );
-    plain(
-        b"plain limit 100000",
-        2,
-        2,
-        4,
-        2.0,
-        1.0,
-        settings(100000, 1e-10),
-    );
-    plain(
-        b"plain limit 100001",
-        2,
-        2,
-        4,
-        2.0,
-        1.0,
-        settings(100001, 1e-10),
-    );
-    full(b"full limit 0", 2, 2, 4, 4, 4, 2.0, 1.0, settings(0, 1e-10));
-    full(
-        b"full limit 0 on zeros",
-        2,
-        2,
-        4,
-        4,
-        4,
-        0.0,
-        0.0,
-        settings(0, 1e-10),
-    );
-    full(
-        b"full limit 100000",
-        2,
-        2,
-        4,
-        4,
-        4,
-        2.0,
-        1.0,
-        settings(100000, 1e-10),
-    );
-    full(
-        b"full limit 100001",
-        2,
-        2,
-        4,
-        4,
-        4,
-        2.0,
-        1.0,
-        settings(100001, 1e-10),
-    );
+fn plain_counts() {
+    let s = settings(0, 1e-10);
+    plain(b"plain limit 0", 2, 2, 4, 2.0, 1.0, s);
+    plain(b"plain limit 0 on zeros", 2, 2, 4, 0.0, 0.0, s);
+    let most = settings(100000, 1e-10);
+    plain(b"plain limit 100000", 2, 2, 4, 2.0, 1.0, most);
+    let over = settings(100001, 1e-10);
+    plain(b"plain limit 100001", 2, 2, 4, 2.0, 1.0, over);
+}
+
+// The same of the accumulating call.
+fn full_counts() {
+    let s = settings(0, 1e-10);
+    full(b"full limit 0", 2, 2, 4, 4, 4, 2.0, 1.0, s);
+    full(b"full limit 0 on zeros", 2, 2, 4, 4, 4, 0.0, 0.0, s);
+    let most = settings(100000, 1e-10);
+    full(b"full limit 100000", 2, 2, 4, 4, 4, 2.0, 1.0, most);
+    let over = settings(100001, 1e-10);
+    full(b"full limit 100001", 2, 2, 4, 4, 4, 2.0, 1.0, over);
 }
 
 fn lengths() {
-    plain(
-        b"plain table one short",
-        2,
-        2,
-        3,
-        2.0,
-        1.0,
-        settings(0, 1e-10),
-    );
-    plain(
-        b"plain table one long",
-        2,
-        2,
-        5,
-        2.0,
-        1.0,
-        settings(0, 1e-10),
-    );
-    full(
-        b"full table one short",
-        2,
-        2,
-        3,
-        4,
-        4,
-        2.0,
-        1.0,
-        settings(0, 1e-10),
-    );
-    full(
-        b"full table one long",
-        2,
-        2,
-        5,
-        4,
-        4,
-        2.0,
-        1.0,
-        settings(0, 1e-10),
-    );
-    full(
-        b"full U one short",
-        2,
-        2,
-        4,
-        3,
-        4,
-        2.0,
-        1.0,
-        settings(0, 1e-10),
-    );
-    full(
-        b"full U one long",
-        2,
-        2,
-        4,
-        5,
-        4,
-        2.0,
-        1.0,
-        settings(0, 1e-10),
-    );
-    full(
-        b"full V one short",
-        2,
-        2,
-        4,
-        4,
-        3,
-        2.0,
-        1.0,
-        settings(0, 1e-10),
-    );
-    full(
-        b"full V one long",
-        2,
-        2,
-        4,
-        4,
-        5,
-        2.0,
-        1.0,
-        settings(0, 1e-10),
-    );
+    let s = settings(0, 1e-10);
+    plain(b"plain table one short", 2, 2, 3, 2.0, 1.0, s);
+    plain(b"plain table one long", 2, 2, 5, 2.0, 1.0, s);
+    full(b"full table one short", 2, 2, 3, 4, 4, 2.0, 1.0, s);
+    full(b"full table one long", 2, 2, 5, 4, 4, 2.0, 1.0, s);
+    full(b"full U one short", 2, 2, 4, 3, 4, 2.0, 1.0, s);
+    full(b"full U one long", 2, 2, 4, 5, 4, 2.0, 1.0, s);
+    full(b"full V one short", 2, 2, 4, 4, 3, 2.0, 1.0, s);
+    full(b"full V one long", 2, 2, 4, 4, 5, 2.0, 1.0, s);
 }
 
 // Each has the faults of two numbers that follow one another; the last has that of 8 alone.
@@ -325,7 +206,8 @@ fn order() {
 
 fn main() {
     sizes();
-    counts();
+    plain_counts();
+    full_counts();
     lengths();
     order();
 }
