@@ -1,0 +1,3 @@
+-- What the app's promises speak of, and what follows from them.
+pub mod Values
+pub mod Answers
