@@ -133,11 +133,3 @@ pub fn square_root(x: f64) -> f64
     }
     f64::from_bits(root_bits(bits))
 }
-
-// The same root, for Rust and C to call.
-#[no_mangle]
-pub extern "C" fn merotunki_square_root(x: f64) -> f64
-    ensures { λ r. ⌜ r ≡ squareRoot binary64 x ⌝ }
-{
-    square_root(x)
-}

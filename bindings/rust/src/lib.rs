@@ -1,0 +1,2 @@
+//! The proved split.
+pub mod raw;

@@ -1,0 +1,46 @@
+-- The method's answers as the structs that cross the border. Definitions only.
+use Prim.Native.Nat.{ℕ}
+use lib.Ieee.{Float}
+use Rattle.method.specs.Work.{Work}
+use Rattle.method.specs.Outcome as Outcome
+use Rattle.method.specs.Outcome.{Outcome}
+use Rattle.app.specs.declared.Answer.{Answer}
+use Rattle.app.specs.declared.Choice.{Choice}
+
+-- the word's number
+abbrev pub numbered : Outcome.Word → ℕ
+numbered Outcome.none = 0
+numbered Outcome.settled = 1
+numbered Outcome.stopped = 2
+
+-- the report
+abbrev pub answerOf : Outcome.Report → Answer
+answerOf r =
+    record {
+      number = r .number;
+      place = r .place;
+      word = numbered (r .word);
+      passes = r .passes;
+      sweeps = r .sweeps;
+      drops = r .drops;
+      range = r .range;
+    }
+
+-- an answer, and every list that was lent, as the call leaves it
+pub record Answered : Type 0 where
+  pub answer : Answer
+  pub held : Work
+
+abbrev pub answered : Answer → Work → Answered
+answered a w = record { answer = a; held = w }
+
+-- what is told of an outcome
+abbrev pub told : Outcome → Answered
+told o = answered (answerOf (o .report)) (o .held)
+
+-- five settings
+abbrev pub chosen : ℕ → ℕ → Float → Float → Float → Outcome.Settings
+chosen limit credit tolerance absolute floor = record { limit = limit; credit = credit; tolerance = tolerance; absolute = absolute; floor = floor }
+
+abbrev pub settingsOf : Choice → Outcome.Settings
+settingsOf c = chosen (c .limit) (c .credit) (c .tolerance) (c .absolute) (c .floor)

@@ -1,0 +1,191 @@
+// What an app links: the calls beneath under plain C names. A lent slice is a pointer and a length,
+// one after the other. Each promise is that of the call beneath it: nothing is asked of the caller
+// but that the pointers are good, what is unfit is refused by number, and a refused call writes
+// nothing.
+use svd::identity::identity_flat;
+use svd::interface::full_svd_decomposition;
+use svd::interface::svd_decomposition;
+use svd::report::Report;
+use svd::report::Word;
+use svd::settings::Settings;
+use svd::view::row_view;
+ghost use mathlib.Core.Path.{_≡_};
+ghost use mathlib.Core.List.{[]};
+ghost use lib.Ieee.{binary64};
+ghost use Rattle.method.specs.Root.{squareRoot};
+ghost use Rattle.method.specs.Work.{work};
+ghost use Rattle.method.specs.Defaults.{defaults};
+ghost use Rattle.method.specs.Outcome.{fullOutcome, plainOutcome, filled, fillOutcome};
+ghost use Rattle.svd.specs.Values.{reportOf, wordOf};
+ghost use Rattle.app.specs.Values.{numbered, answerOf, answered, told, chosen, settingsOf};
+ghost use Rattle.app.specs.Row.{partOf};
+
+// What a call answers. The word is 0 in a refusal, 1 where the table settled and 2 where the walk
+// stopped at its limit.
+#[repr(C)]
+pub struct Answer {
+    pub number: u64,
+    pub place: u64,
+    pub word: u64,
+    pub passes: u64,
+    pub sweeps: u64,
+    pub drops: u64,
+    pub range: u64,
+}
+
+// Where a row lies in U or V: its first entry, and how many there are.
+#[repr(C)]
+pub struct Part {
+    pub start: u64,
+    pub length: u64,
+}
+
+// The five settings.
+#[repr(C)]
+pub struct Choice {
+    pub limit: u64,
+    pub credit: u64,
+    pub tolerance: f64,
+    pub absolute: f64,
+    pub floor: f64,
+}
+
+fn word_number(word: Word) -> u64
+    ensures { λ r. ⌜ r ≡ numbered (wordOf word) ⌝ }
+{
+    match word {
+        Word::None => 0,
+        Word::Settled => 1,
+        Word::Stopped => 2,
+    }
+}
+
+fn tell(report: Report) -> Answer
+    ensures { λ r. ⌜ r ≡ answerOf (reportOf report) ⌝ }
+{
+    let word = report.word;
+    let code = word_number(word);
+    Answer {
+        number: report.number as u64,
+        place: report.place as u64,
+        word: code,
+        passes: report.passes as u64,
+        sweeps: report.sweeps as u64,
+        drops: report.drops as u64,
+        range: report.range as u64,
+    }
+}
+
+// The split of the table alone.
+#[no_mangle]
+pub extern "C" fn merotunki_svd(
+    matrix: &mut [f64],
+    rows: usize,
+    cols: usize,
+    limit: usize,
+    credit: usize,
+    tolerance: f64,
+    absolute: f64,
+    floor: f64,
+) -> Answer
+    ensures { λ r. ⌜ answered r (work (now (matrix .exit)) [] [])
+        ≡ told (plainOutcome binary64 rows cols (chosen limit credit tolerance absolute floor) (now (matrix .entry))) ⌝ }
+{
+    let settings = Settings {
+        limit: limit,
+        credit: credit,
+        tolerance: tolerance,
+        absolute: absolute,
+        floor: floor,
+    };
+    let report = svd_decomposition(matrix, rows, cols, settings);
+    tell(report)
+}
+
+// The split with U and V kept, each multiplied from the right as it stands.
+#[no_mangle]
+pub extern "C" fn merotunki_full_svd(
+    matrix: &mut [f64],
+    u: &mut [f64],
+    v: &mut [f64],
+    rows: usize,
+    cols: usize,
+    limit: usize,
+    credit: usize,
+    tolerance: f64,
+    absolute: f64,
+    floor: f64,
+) -> Answer
+    ensures { λ r. ⌜ answered r (work (now (matrix .exit)) (now (u .exit)) (now (v .exit)))
+        ≡ told (fullOutcome binary64 rows cols (chosen limit credit tolerance absolute floor)
+        (work (now (matrix .entry)) (now (u .entry)) (now (v .entry)))) ⌝ }
+{
+    let settings = Settings {
+        limit: limit,
+        credit: credit,
+        tolerance: tolerance,
+        absolute: absolute,
+        floor: floor,
+    };
+    let report = full_svd_decomposition(matrix, u, v, rows, cols, settings);
+    tell(report)
+}
+
+// Fills a with the identity of n rows and n columns. Answers 0, or the number of a refusal, which
+// writes nothing: 1, 2 or 4.
+#[no_mangle]
+pub extern "C" fn merotunki_identity(a: &mut [f64], n: usize) -> u64
+    ensures { λ r. ⌜ filled r (now (a .exit)) ≡ fillOutcome n (now (a .entry)) ⌝ }
+{
+    identity_flat(a, n) as u64
+}
+
+// Where row `row` of U (side 0) or of V (side 1) lies; no entries where that is not fit.
+#[no_mangle]
+pub extern "C" fn merotunki_row<'a>(
+    u: &'a [f64],
+    v: &'a [f64],
+    rows: usize,
+    cols: usize,
+    side: usize,
+    row: usize,
+) -> Part
+    ensures { λ r. ⌜ r ≡ partOf rows cols (now (u .entry)) (now (v .entry)) side row ⌝ }
+{
+    let view = row_view(rows, cols, u, v, side, row);
+    let size = view.len();
+    if size == 0 {
+        return Part {
+            start: 0,
+            length: 0,
+        };
+    }
+    let start = row * size;
+    Part {
+        start: start as u64,
+        length: size as u64,
+    }
+}
+
+// The root of x, the nearest double to it.
+#[no_mangle]
+pub extern "C" fn merotunki_square_root(x: f64) -> f64
+    ensures { λ r. ⌜ r ≡ squareRoot binary64 x ⌝ }
+{
+    float::square_root(x)
+}
+
+// The default settings.
+#[no_mangle]
+pub extern "C" fn merotunki_defaults() -> Choice
+    ensures { λ r. ⌜ settingsOf r ≡ defaults ⌝ }
+{
+    let settings = Settings::new();
+    Choice {
+        limit: settings.limit as u64,
+        credit: settings.credit as u64,
+        tolerance: settings.tolerance,
+        absolute: settings.absolute,
+        floor: settings.floor,
+    }
+}
