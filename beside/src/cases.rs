@@ -15,8 +15,9 @@ pub fn all() -> Vec<Case> {
     cases
 }
 
-fn identities(rows: usize, cols: usize) -> Option<(Vec<f64>, Vec<f64>)> {
-    Some((identity_flat(rows, rows), identity_flat(cols, cols)))
+/// U and V as the identity.
+pub(crate) fn identities(rows: usize, cols: usize) -> (Vec<f64>, Vec<f64>) {
+    (identity_flat(rows, rows), identity_flat(cols, cols))
 }
 
 /// A case that accumulates from the identity.
@@ -26,7 +27,7 @@ pub fn case(rows: usize, cols: usize, matrix: &[f64], settings: Settings) -> Cas
         cols,
         settings,
         matrix: matrix.to_vec(),
-        uv: identities(rows, cols),
+        uv: Some(identities(rows, cols)),
     }
 }
 

@@ -3,9 +3,11 @@
 
 pub mod cases;
 mod record;
+pub mod refusals;
 pub mod survey;
 pub mod text;
 pub mod texts;
+pub mod vectors;
 
 /// The original, under the paths by which its files name each other.
 #[rustfmt::skip]

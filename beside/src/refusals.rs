@@ -1,0 +1,240 @@
+//! Runs that are refused: by each number in several ways, and by two numbers that follow one
+//! another, where the first counts. Then runs at the bounds of what is accepted.
+
+use crate::Settings;
+use crate::vectors::{Run, Start};
+
+type Fault = fn(&mut Run);
+
+/// The whole list.
+pub fn all() -> Vec<Run> {
+    let mut runs = Vec::new();
+    for kept in [true, false] {
+        for (number, faults) in NUMBERS {
+            for fault in faults.iter().filter(|_| kept || !is_factors(number)) {
+                runs.push(with(kept, &[*fault]));
+            }
+        }
+        runs.extend(bad_readings(kept));
+        runs.extend(pairs(kept));
+        runs.extend(allowed(kept));
+    }
+    runs.extend(from_the_identity());
+    runs
+}
+
+/// Whether only the accumulating call refuses by this number.
+fn is_factors(number: usize) -> bool {
+    number == 4 || number == 5
+}
+
+/// Lists of the lengths that the sizes ask for.
+fn fitted(run: &mut Run) {
+    let list = |length: usize| (0..length).map(|at| at as f64 - 2.5).collect::<Vec<f64>>();
+    run.matrix = list(run.rows * run.columns);
+    run.start = Start::Given(list(run.rows * run.rows), list(run.columns * run.columns));
+}
+
+/// A 3 x 2 that is accepted, after the faults.
+fn with(kept: bool, faults: &[Fault]) -> Run {
+    let mut run = Run {
+        rows: 3,
+        columns: 2,
+        settings: Settings::DEFAULT,
+        kept,
+        matrix: Vec::new(),
+        start: Start::Identity,
+    };
+    fitted(&mut run);
+    for fault in faults {
+        fault(&mut run);
+    }
+    run
+}
+
+fn u(run: &mut Run) -> &mut Vec<f64> {
+    match &mut run.start {
+        Start::Given(u, _) => u,
+        Start::Identity => unreachable!("lists are given"),
+    }
+}
+
+fn v(run: &mut Run) -> &mut Vec<f64> {
+    match &mut run.start {
+        Start::Given(_, v) => v,
+        Start::Identity => unreachable!("lists are given"),
+    }
+}
+
+const NO_ROWS: Fault = |run| {
+    run.rows = 0;
+    fitted(run);
+};
+const NO_COLUMNS: Fault = |run| {
+    run.columns = 0;
+    fitted(run);
+};
+const MANY_ROWS: Fault = |run| {
+    run.rows = 49;
+    fitted(run);
+};
+const MANY_COLUMNS: Fault = |run| {
+    run.columns = 49;
+    fitted(run);
+};
+const SHORT: Fault = |run| run.matrix.truncate(run.matrix.len() - 1);
+const SHORT_U: Fault = |run| u(run).truncate(8);
+const SHORT_V: Fault = |run| v(run).truncate(3);
+const OVER_LIMIT: Fault = |run| run.settings.limit = 100_001;
+const BELOW_ZERO: Fault = |run| run.settings.tolerance = -1.0;
+const BAD_READING: Fault = |run| run.matrix[3] = f64::INFINITY;
+
+/// The faults of each number but 8.
+const NUMBERS: [(usize, &[Fault]); 7] = [
+    (
+        1,
+        &[
+            NO_ROWS,
+            NO_COLUMNS,
+            |run| run.rows = 0,
+            |run| (run.rows, run.columns) = (0, 0),
+            |run| (run.rows, run.columns) = (0, usize::MAX),
+        ],
+    ),
+    (
+        2,
+        &[
+            MANY_ROWS,
+            MANY_COLUMNS,
+            |run| run.rows = 49,
+            |run| run.columns = 1 << 63,
+            |run| run.rows = usize::MAX,
+            // Rows times columns would be 0.
+            |run| {
+                (run.rows, run.columns) = (1 << 32, 1 << 32);
+                run.matrix.clear();
+            },
+        ],
+    ),
+    (
+        3,
+        &[
+            SHORT,
+            |run| run.matrix.push(1.0),
+            |run| run.matrix.clear(),
+            |run| run.matrix.resize(9, 1.0),
+        ],
+    ),
+    (
+        4,
+        &[
+            SHORT_U,
+            |run| u(run).push(1.0),
+            |run| u(run).clear(),
+            |run| u(run).truncate(4),
+        ],
+    ),
+    (
+        5,
+        &[
+            SHORT_V,
+            |run| v(run).push(1.0),
+            |run| v(run).clear(),
+            |run| v(run).resize(9, 1.0),
+        ],
+    ),
+    (
+        6,
+        &[
+            OVER_LIMIT,
+            |run| run.settings.limit = usize::MAX,
+            |run| run.settings.credit = 1_001,
+            |run| run.settings.credit = 1 << 63,
+        ],
+    ),
+    (
+        7,
+        &[
+            BELOW_ZERO,
+            |run| run.settings.tolerance = -f64::from_bits(1),
+            |run| run.settings.tolerance = f64::INFINITY,
+            |run| run.settings.tolerance = f64::NAN,
+            |run| run.settings.absolute = -1e-300,
+            |run| run.settings.absolute = f64::NEG_INFINITY,
+            |run| run.settings.absolute = f64::INFINITY,
+            |run| run.settings.absolute = f64::NAN,
+            |run| run.settings.floor = 0.0,
+            |run| run.settings.floor = -0.0,
+            |run| run.settings.floor = -1e-21,
+            |run| run.settings.floor = f64::INFINITY,
+            |run| run.settings.floor = f64::NAN,
+        ],
+    ),
+];
+
+/// A bad reading at each place, and two of them.
+fn bad_readings(kept: bool) -> Vec<Run> {
+    let bad = [
+        f64::INFINITY,
+        f64::NEG_INFINITY,
+        f64::NAN,
+        f64::from_bits(0xFFF8_0000_0000_0001),
+        f64::from_bits(0x7FF0_0000_0000_0001),
+        f64::from_bits(0xFFFF_FFFF_FFFF_FFFF),
+    ];
+    let mut runs = Vec::new();
+    for (place, reading) in bad.into_iter().enumerate() {
+        let mut run = with(kept, &[]);
+        run.matrix[place] = reading;
+        runs.push(run.clone());
+        run.matrix[5] = f64::INFINITY;
+        runs.push(run);
+    }
+    runs
+}
+
+/// Faults of two numbers that follow one another.
+fn pairs(kept: bool) -> Vec<Run> {
+    let firsts = [
+        (1, NO_ROWS),
+        (2, MANY_COLUMNS),
+        (3, SHORT),
+        (4, SHORT_U),
+        (5, SHORT_V),
+        (6, OVER_LIMIT),
+        (7, BELOW_ZERO),
+        (8, BAD_READING),
+    ];
+    let told: Vec<Fault> = firsts
+        .into_iter()
+        .filter(|&(number, _)| kept || !is_factors(number))
+        .map(|(_, fault)| fault)
+        .collect();
+    told.windows(2).map(|pair| with(kept, pair)).collect()
+}
+
+/// At the bounds of what is accepted.
+fn allowed(kept: bool) -> Vec<Run> {
+    let faults: [Fault; 8] = [
+        |_| (),
+        |run| run.settings.limit = 100_000,
+        |run| run.settings.limit = 0,
+        |run| run.settings.credit = 1_000,
+        |run| (run.settings.tolerance, run.settings.absolute) = (-0.0, -0.0),
+        |run| (run.settings.tolerance, run.settings.absolute) = (f64::MAX, f64::MAX),
+        |run| run.settings.floor = f64::from_bits(1),
+        |run| run.settings.floor = f64::MAX,
+    ];
+    faults.iter().map(|fault| with(kept, &[*fault])).collect()
+}
+
+/// Refused with U and V filled with the identity.
+fn from_the_identity() -> Vec<Run> {
+    let faults = [SHORT, OVER_LIMIT, BELOW_ZERO, BAD_READING];
+    let runs = faults.iter().map(|fault| with(true, &[*fault]));
+    runs.map(|run| Run {
+        start: Start::Identity,
+        ..run
+    })
+    .collect()
+}
