@@ -4,20 +4,21 @@
 use crate::Settings;
 use crate::vectors::{Run, Start};
 
+/// A change to a run.
 type Fault = fn(&mut Run);
 
-/// The whole list.
-pub fn all() -> Vec<Run> {
+/// The whole list, each run with the number that it is to be refused by; 0 where it is accepted.
+pub fn all() -> Vec<(usize, Run)> {
     let mut runs = Vec::new();
     for kept in [true, false] {
         for (number, faults) in NUMBERS {
             for fault in faults.iter().filter(|_| kept || !is_factors(number)) {
-                runs.push(with(kept, &[*fault]));
+                runs.push((number, with(kept, &[*fault])));
             }
         }
-        runs.extend(bad_readings(kept));
+        runs.extend(bad_readings(kept).map(|run| (8, run)));
         runs.extend(pairs(kept));
-        runs.extend(allowed(kept));
+        runs.extend(ALLOWED.map(|change| (0, with(kept, &[change]))));
     }
     runs.extend(from_the_identity());
     runs
@@ -172,30 +173,40 @@ const NUMBERS: [(usize, &[Fault]); 7] = [
     ),
 ];
 
-/// A bad reading at each place, and two of them.
-fn bad_readings(kept: bool) -> Vec<Run> {
+/// At the bounds of what is accepted.
+const ALLOWED: [Fault; 8] = [
+    |_| (),
+    |run| run.settings.limit = 100_000,
+    |run| run.settings.limit = 0,
+    |run| run.settings.credit = 1_000,
+    |run| (run.settings.tolerance, run.settings.absolute) = (-0.0, -0.0),
+    |run| (run.settings.tolerance, run.settings.absolute) = (f64::MAX, f64::MAX),
+    |run| run.settings.floor = f64::from_bits(1),
+    |run| run.settings.floor = f64::MAX,
+];
+
+/// A bad reading at each place, and another in the last.
+fn bad_readings(kept: bool) -> impl Iterator<Item = Run> {
     let bad = [
-        f64::INFINITY,
-        f64::NEG_INFINITY,
-        f64::NAN,
-        f64::from_bits(0xFFF8_0000_0000_0001),
-        f64::from_bits(0x7FF0_0000_0000_0001),
-        f64::from_bits(0xFFFF_FFFF_FFFF_FFFF),
+        0x7FF0_0000_0000_0000,
+        0xFFF0_0000_0000_0000,
+        0x7FF8_0000_0000_0000,
+        0xFFF8_0000_0000_0001,
+        0x7FF0_0000_0000_0001,
+        0xFFFF_FFFF_FFFF_FFFF,
     ];
-    let mut runs = Vec::new();
-    for (place, reading) in bad.into_iter().enumerate() {
+    bad.into_iter().enumerate().flat_map(move |(place, bits)| {
         let mut run = with(kept, &[]);
-        run.matrix[place] = reading;
-        runs.push(run.clone());
+        run.matrix[place] = f64::from_bits(bits);
+        let one = run.clone();
         run.matrix[5] = f64::INFINITY;
-        runs.push(run);
-    }
-    runs
+        [one, run]
+    })
 }
 
 /// Faults of two numbers that follow one another.
-fn pairs(kept: bool) -> Vec<Run> {
-    let firsts = [
+fn pairs(kept: bool) -> Vec<(usize, Run)> {
+    let mut faults = vec![
         (1, NO_ROWS),
         (2, MANY_COLUMNS),
         (3, SHORT),
@@ -205,36 +216,22 @@ fn pairs(kept: bool) -> Vec<Run> {
         (7, BELOW_ZERO),
         (8, BAD_READING),
     ];
-    let told: Vec<Fault> = firsts
-        .into_iter()
-        .filter(|&(number, _)| kept || !is_factors(number))
-        .map(|(_, fault)| fault)
-        .collect();
-    told.windows(2).map(|pair| with(kept, pair)).collect()
-}
-
-/// At the bounds of what is accepted.
-fn allowed(kept: bool) -> Vec<Run> {
-    let faults: [Fault; 8] = [
-        |_| (),
-        |run| run.settings.limit = 100_000,
-        |run| run.settings.limit = 0,
-        |run| run.settings.credit = 1_000,
-        |run| (run.settings.tolerance, run.settings.absolute) = (-0.0, -0.0),
-        |run| (run.settings.tolerance, run.settings.absolute) = (f64::MAX, f64::MAX),
-        |run| run.settings.floor = f64::from_bits(1),
-        |run| run.settings.floor = f64::MAX,
-    ];
-    faults.iter().map(|fault| with(kept, &[*fault])).collect()
+    faults.retain(|&(number, _)| kept || !is_factors(number));
+    let pair = |two: &[(usize, Fault)]| (two[0].0, with(kept, &[two[0].1, two[1].1]));
+    faults.windows(2).map(pair).collect()
 }
 
 /// Refused with U and V filled with the identity.
-fn from_the_identity() -> Vec<Run> {
-    let faults = [SHORT, OVER_LIMIT, BELOW_ZERO, BAD_READING];
-    let runs = faults.iter().map(|fault| with(true, &[*fault]));
-    runs.map(|run| Run {
-        start: Start::Identity,
-        ..run
+fn from_the_identity() -> impl Iterator<Item = (usize, Run)> {
+    let faults = [
+        (3, SHORT),
+        (6, OVER_LIMIT),
+        (7, BELOW_ZERO),
+        (8, BAD_READING),
+    ];
+    faults.into_iter().map(|(number, fault)| {
+        let start = Start::Identity;
+        let run = with(true, &[fault]);
+        (number, Run { start, ..run })
     })
-    .collect()
 }

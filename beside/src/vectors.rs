@@ -1,14 +1,5 @@
-//! Runs of the calls with the answers of the original, as the program `vectors` replays them. Words
-//! of 8 bytes, the lowest byte first; a double is the word of its bits, in an answer every NaN as
-//! 7FF8000000000000. A run is:
-//!
-//!     rows, columns, limit, credit, tolerance, absolute, floor,
-//!     kept: 0 for the plain call, 1 for the accumulating one and the plain one beside it,
-//!     start: 0 where U and V start as the identity, or there are none; 1 where they are stored,
-//!     how long matrix, U and V are; without U and V 0,
-//!     the matrix, and with start 1, U and V,
-//!     number, place, word (0 none, 1 settled, 2 stopped), passes, sweeps, drops, range,
-//!     with number 0 the matrix, U and V afterwards.
+//! Runs of the calls with the answers of the original, written as crates/vectors/src/stored.rt says
+//! and the program `vectors` replays them. In an answer every NaN is 7FF8000000000000.
 
 use crate::text::{self, Case};
 use crate::{Settings, Word, cases, refusals};
@@ -36,6 +27,7 @@ pub struct Run {
     pub start: Start,
 }
 
+/// What the call is to answer, and with it what the lists hold afterwards; refused, they stay.
 pub enum Answer {
     Refused { number: usize, place: usize },
     Accepted(text::Answer),
@@ -44,7 +36,7 @@ pub enum Answer {
 /// The runs that are stored.
 pub fn stored() -> Vec<Run> {
     let mut runs: Vec<Run> = cases::all().into_iter().map(Run::from).collect();
-    runs.extend(refusals::all());
+    runs.extend(refusals::all().into_iter().map(|(_, run)| run));
     runs
 }
 

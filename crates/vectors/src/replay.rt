@@ -83,7 +83,7 @@ fn full(
     Made { agrees, report }
 }
 
-// Whether the plain call on a copy of b, in c, gives the stored report too and leaves what b2 holds.
+// Whether the plain call on a copy of b, in c, gives the stored report and leaves what b2 holds.
 fn copy_agrees(b: &[f64], c: &mut [f64], b2: &[f64], head: Head, answer: Answer) -> bool
     requires { ⌜ length (now b) ≡ length (now c) ⌝ }
 {
@@ -92,8 +92,8 @@ fn copy_agrees(b: &[f64], c: &mut [f64], b2: &[f64], head: Head, answer: Answer)
     made.agrees
 }
 
-// Whether the plain call goes with the accumulating one: where that is refused by U or V, it does
-// not, and anything is right.
+// Whether the plain call gives the stored report and matrix too. It has no numbers 4 and 5: where
+// one of them is stored, it is not made.
 fn plain_agrees(b: &[f64], b2: &[f64], head: Head, answer: Answer) -> bool {
     if answer.number == 4 || answer.number == 5 {
         return true;
