@@ -2,8 +2,10 @@
 //! original's own files, changed as prepare.rs says and nowhere else (`CHANGES` is the list).
 
 pub mod cases;
+pub mod kinds;
 mod record;
 pub mod refusals;
+pub mod run;
 pub mod survey;
 pub mod text;
 pub mod texts;

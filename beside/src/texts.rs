@@ -1,7 +1,9 @@
 //! A fixed list of survey texts: well-formed ones, and ones damaged at each kind of place in each
-//! way that a rule speaks of.
+//! way that a rule speaks of; and drawn texts without end, well formed and damaged.
 
 use crate::cases::{Draw, READINGS};
+use crate::kinds::{Sizes, drawn as drawn_run};
+use crate::run::Run;
 use crate::survey::split;
 use crate::text::hexes;
 
@@ -292,15 +294,114 @@ pub fn all() -> Vec<Vec<u8>> {
     kept
 }
 
-/// The list as it is stored: the sizes of a text and of its answer, six digits and an LF each, then
-/// the text and the answer.
+/// A text as it is stored: its size and its answer's, six digits and an LF each, then the text and
+/// the answer.
+fn store(out: &mut Vec<u8>, text: &[u8]) {
+    let answer = split(text);
+    out.extend(format!("{:06}\n{:06}\n", text.len(), answer.len()).bytes());
+    out.extend(text);
+    out.extend(answer.bytes());
+}
+
+/// The list as it is stored.
 pub fn stored() -> Vec<u8> {
     let mut out = Vec::new();
     for text in all() {
-        let answer = split(&text);
-        out.extend(format!("{:06}\n{:06}\n", text.len(), answer.len()).bytes());
-        out.extend(&text);
-        out.extend(answer.bytes());
+        store(&mut out, &text);
     }
     out
+}
+
+/// A well-formed text with surveys of every kind; mostly small ones.
+fn any_surveys(draw: &mut Draw) -> Vec<u8> {
+    let many = if draw.below(3) == 0 {
+        1 + draw.below(8)
+    } else {
+        1
+    };
+    let sizes = match draw.below(40) {
+        0 => Sizes::All,
+        1..8 => Sizes::UpTo(8),
+        _ => Sizes::UpTo(3),
+    };
+    let mut surveys: Vec<Survey> = Vec::new();
+    while (surveys.len() as u64) < many {
+        let id = [9, 99, 999, 65535][draw.below(4) as usize];
+        let id = 1 + draw.below(id) as usize;
+        if surveys.iter().all(|other| other.0 != id) {
+            let run = fit(draw, sizes);
+            surveys.push((id, run.rows, run.cols, run.matrix));
+        }
+    }
+    written(&surveys)
+}
+
+/// A drawn run whose sizes and length are those of a table; its readings may be bad ones.
+fn fit(draw: &mut Draw, sizes: Sizes) -> Run {
+    loop {
+        let (run, _) = drawn_run(draw.bits(), 0, sizes);
+        let sized = (1..=48).contains(&run.rows) && (1..=48).contains(&run.cols);
+        if sized && run.matrix.len() == run.rows * run.cols {
+            return run;
+        }
+    }
+}
+
+/// Damages the text at one place: a byte changed, put in or left out, a line doubled, left out or
+/// exchanged with the next, the end cut off, or something behind the end.
+fn damage(draw: &mut Draw, text: &mut Vec<u8>) {
+    let any = b"\n\r\t \x00/0123456789:@ABCDEFGabcdefg+-.x\x7f\x80\xff";
+    let byte = any[draw.below(any.len() as u64) as usize];
+    let place = draw.below(text.len() as u64 + 1) as usize;
+    let mut lines: Vec<Vec<u8>> = text
+        .split_inclusive(|&b| b == b'\n')
+        .map(<[u8]>::to_vec)
+        .collect();
+    let line = draw.below(lines.len().max(1) as u64) as usize;
+    match draw.below(8) {
+        0 | 1 if place < text.len() => text[place] = byte,
+        2 => text.insert(place, byte),
+        3 if place < text.len() => drop(text.remove(place)),
+        4 => text.truncate(place),
+        5 => text.extend([byte, b'\n']),
+        6 if line < lines.len() => {
+            lines.insert(line, lines[line].clone());
+            *text = lines.concat();
+        }
+        7 if line + 1 < lines.len() => {
+            lines.swap(line, line + 1);
+            *text = lines.concat();
+        }
+        _ if line < lines.len() => {
+            lines.remove(line);
+            *text = lines.concat();
+        }
+        _ => text.push(byte),
+    }
+}
+
+/// Text `number` of a seed: well formed, or damaged once or twice.
+pub fn drawn_text(seed: u64, number: u64) -> Vec<u8> {
+    let mut mixed = Draw(seed ^ number.wrapping_mul(0xD1B5_4A32_D192_ED03));
+    let draw = &mut Draw(mixed.bits());
+    let mut text = any_surveys(draw);
+    for _ in 0..draw.below(3) {
+        damage(draw, &mut text);
+    }
+    text
+}
+
+/// Texts `first` to `end` of a seed as they are stored, as many as fit into `most` bytes; and how
+/// many these are.
+pub fn lot(seed: u64, first: u64, end: u64, most: usize) -> (Vec<u8>, u64) {
+    let mut out = Vec::new();
+    for number in first..end {
+        let before = out.len();
+        store(&mut out, &drawn_text(seed, number));
+        if out.len() > most && before > 0 {
+            out.truncate(before);
+            return (out, number - first);
+        }
+    }
+    (out, end - first)
 }

@@ -2,6 +2,8 @@
 // one after the other. Each promise is that of the call beneath it: nothing is asked of the caller
 // but that the pointers are good, what is unfit is refused by number, and a refused call writes
 // nothing.
+use factors::identity::identity_flat;
+use factors::view::row_view;
 use svd::interface::full_svd_decomposition;
 use svd::interface::svd_decomposition;
 use svd::report::Report;
@@ -13,9 +15,10 @@ ghost use lib.Ieee.{binary64};
 ghost use Rattle.method.specs.Root.{squareRoot};
 ghost use Rattle.method.specs.Work.{work};
 ghost use Rattle.method.specs.Defaults.{defaults};
-ghost use Rattle.method.specs.Outcome.{fullOutcome, plainOutcome};
+ghost use Rattle.method.specs.Outcome.{fullOutcome, plainOutcome, filled, fillOutcome};
 ghost use Rattle.svd.specs.Values.{reportOf, wordOf};
 ghost use Rattle.app.specs.Values.{numbered, answerOf, answered, told, chosen, settingsOf};
+ghost use Rattle.app.specs.Row.{partOf};
 
 // What a call answers. The word is 0 in a refusal, 1 where the table settled and 2 where the walk
 // stopped at its limit.
@@ -28,6 +31,13 @@ pub struct Answer {
     pub sweeps: u64,
     pub drops: u64,
     pub range: u64,
+}
+
+// Where a row lies in U or V: its first entry, and how many there are.
+#[repr(C)]
+pub struct Part {
+    pub start: u64,
+    pub length: u64,
 }
 
 // The five settings.
@@ -119,6 +129,42 @@ pub extern "C" fn merotunki_full_svd(
     };
     let report = full_svd_decomposition(matrix, u, v, rows, cols, settings);
     tell(report)
+}
+
+// Fills a with the identity of n rows and n columns. Answers 0, or the number of a refusal, which
+// writes nothing: 1, 2 or 4.
+#[no_mangle]
+pub extern "C" fn merotunki_identity(a: &mut [f64], n: usize) -> u64
+    ensures { λ r. ⌜ filled r (now (a .exit)) ≡ fillOutcome n (now (a .entry)) ⌝ }
+{
+    identity_flat(a, n) as u64
+}
+
+// Where row `row` of U (side 0) or of V (side 1) lies; no entries where that is not fit.
+#[no_mangle]
+pub extern "C" fn merotunki_row<'a>(
+    u: &'a [f64],
+    v: &'a [f64],
+    rows: usize,
+    cols: usize,
+    side: usize,
+    row: usize,
+) -> Part
+    ensures { λ r. ⌜ r ≡ partOf rows cols (now (u .entry)) (now (v .entry)) side row ⌝ }
+{
+    let view = row_view(rows, cols, u, v, side, row);
+    let size = view.len();
+    if size == 0 {
+        return Part {
+            start: 0,
+            length: 0,
+        };
+    }
+    let start = row * size;
+    Part {
+        start: start as u64,
+        length: size as u64,
+    }
 }
 
 // The root of x, the nearest double to it.

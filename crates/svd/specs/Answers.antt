@@ -5,7 +5,7 @@ use Prim.Native.Nat.{ℕ}
 use lib.Ieee.{Float, binary64}
 use Rattle.method.specs.Work.{Work, work}
 use Rattle.method.specs.Outcome as Outcome
-use Rattle.method.specs.Outcome.{Outcome, Filled, outcomeOf, fullOutcome, plainOutcome, filled, fillOutcome, rowViewed}
+use Rattle.method.specs.Outcome.{Outcome, outcomeOf, fullOutcome, plainOutcome}
 use Rattle.svd.specs.declared.report.Report.{Report}
 use Rattle.svd.specs.declared.report.Word.{Word}
 use Rattle.svd.specs.declared.report.Word.the-variants.{None, Settled, Stopped}
@@ -84,14 +84,3 @@ module _ (rows cols : ℕ) (s : Settings) where
       outcomeOf (reportOf r) (work b [] []) ≡ plainOutcome binary64 rows cols (settingsOf s) b₀ →
       outcomeOf (reportOf r′) (work b′ [] []) ≡ plainOutcome binary64 rows cols (settingsOf s) b₀ → (r ≡ r′) × (b ≡ b′)
   plain-one b₀ r r′ b b′ e e′ = let a = answers-one _ r r′ b b′ [] [] [] [] e e′ in (a .report, a .matrix)
-
--- ---- the identity fill and the row view
-
-pub fill-one :
-    (n : ℕ) (a : List Float) (r r′ : ℕ) (l l′ : List Float) → filled r l ≡ fillOutcome n a → filled r′ l′ ≡ fillOutcome n a → (r ≡ r′) × (l ≡ l′)
-fill-one n a r r′ l l′ e e′ = let d = e ∙ sym e′ in (ap (λ (x : Filled). x .number) d, ap (λ (x : Filled). x .list) d)
-
--- the entries of the view; where they lie its promise says outright
-pub view-one :
-    (rows cols : ℕ) (u v : List Float) (side k : ℕ) (l l′ : List Float) → l ≡ rowViewed rows cols u v side k → l′ ≡ rowViewed rows cols u v side k → l ≡ l′
-view-one rows cols u v side k l l′ e e′ = e ∙ sym e′

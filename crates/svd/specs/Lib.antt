@@ -2,5 +2,4 @@
 pub mod Values
 pub mod Passes
 pub mod Checks
-pub mod Fill
 pub mod Answers

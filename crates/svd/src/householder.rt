@@ -35,7 +35,7 @@ fn scale_into(v: &[f64], w: &mut [f64], at: usize, n: usize, x: f64)
 }
 
 // The n entries from `at` on, set to 0.
-pub(crate) fn clear(v: &mut [f64], at: usize, n: usize)
+fn clear(v: &mut [f64], at: usize, n: usize)
     requires { ⌜ at + n ≤ length (now v) ⌝ }
     ensures { λ _. ⌜ now (v .exit) ≡ cleared at n (now (v .entry)) ⌝ }
 {

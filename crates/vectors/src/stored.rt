@@ -9,7 +9,7 @@
 use crate::bits::decode;
 use crate::bits::value;
 use crate::bits::word;
-use svd::identity::identity_flat;
+use factors::identity::identity_flat;
 use svd::settings::Settings;
 ghost use mathlib.Core.Path.{_≡_};
 ghost use Prim.Native.Nat.{_≤_};

@@ -5,9 +5,9 @@ use mathlib.Core.Path.{sym, _∙_}
 use native.Mathlib.Omega.{arith}
 use Rattle.method.specs.Index.{few}
 use Rattle.method.specs.Outcome.Refusals.{fill-numbers}
-use Rattle.svd.specs.Fill.{cleared-all, fill-with, fill-done}
-use Rattle.svd.proofs.identity.identity_flat.Statement.{statement}
-use Rattle.svd.proofs.identity.identity_flat.Tie as tie
+use Rattle.factors.specs.Fill.{fill-with, fill-done}
+use Rattle.factors.proofs.identity.identity_flat.Statement.{statement}
+use Rattle.factors.proofs.identity.identity_flat.Tie as tie
 
 returns : tie.Need-returns
 returns c = fill-with (c .before .before .args .n) 1 (c .before .before .args .a .now) (omega arith) (fill-numbers (c .before .before .args .n) (c .before .before .args .a .now) .one .1 (c .if1 .taken))
@@ -22,7 +22,7 @@ returns-3 : tie.Need-returns-3
 returns-3 c = fill-with (c .before .before .before .before .args .n) 4 (c .before .before .before .before .args .a .now) (omega arith) (fill-numbers (c .before .before .before .before .args .n) (c .before .before .before .before .args .a .now) .four .1 (omega arith, omega arith, c .if3 .taken))
 
 ones-requires : tie.Need-ones-requires
-ones-requires c κs = (omega arith, c .before .before .before .clear .ensures ∙ cleared-all _ _ (c .before .before .before .before .before .if3 .left))
+ones-requires c κs = (omega arith, c .before .before .before .zeros .ensures)
 
 returns-4 : tie.Need-returns-4
 returns-4 c = fill-done (c .before .before .before .before .before .before .before .before .before .before .before .before .args .n) (c .before .before .before .before .before .before .before .before .before .before .before .before .args .a .now) _ record { some = omega arith; few = omega arith; whole = c .before .before .before .before .before .before .before .before .if3 .left } (c .before .before .ones .ensures)

@@ -9,8 +9,8 @@ use Rattle.method.specs.Turns.{turns, turns-none, turns-next}
 use Rattle.method.specs.Outcome.{identity}
 use Rattle.method.specs.Floats.{one, one-64, plusZero}
 use Rattle.method.specs.Index.{row-in, few}
-use Rattle.svd.proofs.identity.ones.Statement.{statement}
-use Rattle.svd.proofs.identity.ones.Tie as tie
+use Rattle.factors.proofs.identity.ones.Statement.{statement}
+use Rattle.factors.proofs.identity.ones.Tie as tie
 
 abbrev Inv-loop : tie.InvT-loop
 Inv-loop a₀ n i₀ a i = (i ≤ n) × (length a ≡ length a₀) × (a ≡ turns 0 i (λ k l. set l (k * n + k) one) a₀)

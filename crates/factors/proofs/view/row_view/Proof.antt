@@ -5,9 +5,9 @@ use mathlib.Core.Path.{_≡_, sym, _∙_}
 use mathlib.Core.Bool.{Bool, true, false}
 use native.Mathlib.Omega.{arith}
 use borrow.Author.Tests.{not-true, not-false}
-use Rattle.svd.specs.Fill.{no-row, u-room, u-row, v-room, v-row}
-use Rattle.svd.proofs.view.row_view.Statement.{statement}
-use Rattle.svd.proofs.view.row_view.Tie as tie
+use Rattle.factors.specs.Fill.{no-row, u-room, u-row, v-room, v-row}
+use Rattle.factors.proofs.view.row_view.Statement.{statement}
+use Rattle.factors.proofs.view.row_view.Tie as tie
 
 -- no test is both true and false
 clash : {b : Bool} {A : Type 0} → b ≡ true → b ≡ false → A

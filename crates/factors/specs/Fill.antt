@@ -2,38 +2,34 @@
 use mathlib.Core.Path.{_≡_, refl, sym, ap, _∙_}
 use mathlib.Core.Bool.{Bool, true, false, true≢false}
 use mathlib.Core.List.{List, [], _∷_, _++_, append-nil}
-use Prim.Native.Nat.{ℕ, zero, suc, _+_, _-_, _*_, _≤_, _<_, zero-le}
+use Prim.Native.Nat.{ℕ, zero, suc, _+_, _-_, _*_, _≤_, _<_}
+use native.Mathlib.Nat.{not-suc-le-zero, le-of-suc-le-suc}
+use native.Mathlib.Numerals.{add-one}
 use native.Mathlib.Omega.{arith}
 use lib.Dec.{ltb, eqb}
-use lib.ListN.{length, set, take, drop, replicate, getD, length-replicate}
-use lib.Seq.{drop-cons, set-at, drop-length}
-use lib.Ieee.{Float, nan}
+use lib.ListN.{length, set, take, drop, replicate}
+use lib.Seq.{drop-length}
+use lib.Ieee.{Float}
 use borrow.Author.Tests.{ltb-true, ltb-false, eq-eqb, ne-eqb}
 use Rattle.method.specs.Floats.{plusZero, pick}
-use Rattle.method.specs.Turns.{turns-none, turns-suc}
-use Rattle.method.specs.Reflection.{cleared}
 use Rattle.method.specs.Outcome.{identity, filled, fillNumber, fillOutcome, viewFit, rowViewed}
 use Rattle.method.specs.Outcome.Refusals.{FillFit, fill-numbers, fill-refused, fill-accepted, ViewFit, view-fit, row-viewed, row-refused}
 use Rattle.method.specs.Index.{row-in, few}
 
--- a copy may stand before the others or after them
-replicate-snoc : (k : ℕ) (x : Float) (l : List Float) → replicate k x ++ x ∷ l ≡ x ∷ replicate k x ++ l
-replicate-snoc zero x l = refl
-replicate-snoc (suc k) x l = ap {B = List Float} (λ r. x ∷ r) (replicate-snoc k x l)
+-- the next entry after k zeros set to 0: one zero more
+zeros-set : (k : ℕ) (d : List Float) → k < length d → set (replicate k plusZero ++ drop k d) k plusZero ≡ replicate (suc k) plusZero ++ drop (suc k) d
+zeros-set k [] h = absurd (not-suc-le-zero h)
+zeros-set zero (x ∷ d) h = refl
+zeros-set (suc k) (x ∷ d) h = ap {B = List Float} (λ l. plusZero ∷ l) (zeros-set k d (le-of-suc-le-suc h))
 
--- the first k entries cleared: k zeros, then the rest
-cleared-front : (k : ℕ) (a : List Float) → k ≤ length a → cleared 0 k a ≡ replicate k plusZero ++ drop k a
-unfolding cleared
-cleared-front zero a h = sym (turns-none 0 _ a)
-cleared-front (suc k) a h =
-    turns-suc 0 _ k a zero-le
-    ∙ ap (λ (l : List Float). set l (0 + k) plusZero) (cleared-front k a (omega arith) ∙ ap (λ (l : List Float). replicate k plusZero ++ l) (drop-cons a k nan (omega arith)))
-    ∙ set-at (replicate k plusZero) (getD a k nan) (drop (suc k) a) plusZero (0 + k) (length-replicate k plusZero ∙ omega arith)
-    ∙ replicate-snoc k plusZero (drop (suc k) a)
+pub zeros-more :
+    (k : ℕ) (a d : List Float) → k < length d → a ≡ replicate k plusZero ++ drop k d → set a k plusZero ≡ replicate (k + 1) plusZero ++ drop (k + 1) d
+zeros-more k a d h e = rw (e, add-one) (zeros-set k d h)
 
--- all entries cleared
-pub cleared-all : (n : ℕ) (a : List Float) → length a ≡ n → cleared 0 n a ≡ replicate n plusZero
-cleared-all n a e = cleared-front n a (omega arith) ∙ rw (← e, drop-length) (append-nil _)
+-- after all n entries, nothing but zeros
+pub zeros-all :
+    (n k : ℕ) (a d : List Float) → length d ≡ n → k ≡ n → a ≡ replicate k plusZero ++ drop k d → a ≡ replicate n plusZero
+zeros-all n k a d h i e = e ∙ rw (i, ← h, drop-length) (append-nil _)
 
 -- a fill that is refused by number k
 pub fill-with : (n k : ℕ) (a : List Float) → 0 < k → fillNumber n a ≡ k → filled k a ≡ fillOutcome n a

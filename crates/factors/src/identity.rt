@@ -1,10 +1,19 @@
 // The identity fill (svd/primitives.rs), which a caller runs on U and V before the accumulating call.
-use crate::householder::clear;
 ghost use mathlib.Core.Path.{_≡_};
 ghost use Prim.Native.Nat.{_*_, _≤_};
-ghost use lib.ListN.{replicate};
+ghost use lib.ListN.{length, replicate};
 ghost use Rattle.method.specs.Floats.{plusZero};
 ghost use Rattle.method.specs.Outcome.{identity, filled, fillOutcome};
+
+// All n entries of a, set to 0.
+fn zeros(a: &mut [f64], n: usize)
+    requires { ⌜ length (now a) ≡ n ⌝ }
+    ensures { λ _. ⌜ now (a .exit) ≡ replicate n plusZero ⌝ }
+{
+    for k in 0..n {
+        a[k] = 0.0;
+    }
+}
 
 // 1 down the diagonal of n x n zeros.
 fn ones(a: &mut [f64], n: usize)
@@ -31,7 +40,7 @@ pub fn identity_flat(a: &mut [f64], n: usize) -> usize
     if a.len() != n * n {
         return 4;
     }
-    clear(a, 0, n * n);
+    zeros(a, n * n);
     ones(a, n);
     0
 }

@@ -3,9 +3,9 @@ use borrow.Author.Needs.{needs}
 use Prim.Native.Nat.{_+_, _-_, _*_, _<_, _≤_, zero-le}
 use native.Mathlib.Omega.{arith}
 use Rattle.method.specs.Index.{few}
-use Rattle.svd.specs.Fill.{not-fit, fit-u, fit-v}
-use Rattle.svd.proofs.view.view_fit.Statement.{statement}
-use Rattle.svd.proofs.view.view_fit.Tie as tie
+use Rattle.factors.specs.Fill.{not-fit, fit-u, fit-v}
+use Rattle.factors.proofs.view.view_fit.Statement.{statement}
+use Rattle.factors.proofs.view.view_fit.Tie as tie
 
 returns : tie.Need-returns
 returns c = not-fit (c .before .args .rows) (c .before .args .cols) (c .before .args .u .now) (c .before .args .v .now) (c .before .args .side) (c .before .args .row) (λ x. omega (arith, x .rows-some))

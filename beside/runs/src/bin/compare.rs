@@ -1,0 +1,232 @@
+//! compare [COUNT [SEED [THREADS]]]: COUNT drawn runs (10,000,000 where none is given) of the proved
+//! library beside the original, every bit, and the laws on the same inputs. Run N of a seed is always
+//! the same one, whatever the threads. `compare only SEED N` makes that one run alone.
+//! Ends with status 1 at the first difference, printed as the smallest case that is found from it.
+
+use beside::kinds::{Sizes, TABLES, drawn};
+use runs::{Seen, check, shrunk};
+use std::process::ExitCode;
+use std::sync::Mutex;
+use std::sync::atomic::{AtomicBool, AtomicU64, Ordering::Relaxed};
+use std::time::{Duration, Instant};
+
+/// Runs are taken in lots of this many.
+const LOT: u64 = 1000;
+
+#[derive(Clone)]
+struct Counts {
+    runs: u64,
+    calls: u64,
+    numbers: [u64; 9],
+    words: [u64; 3],
+    tables: [[u64; 4]; TABLES.len()],
+    shapes: Vec<u64>,
+    greater: u64,
+    nan: u64,
+    infinite: u64,
+    passes: u64,
+    drops: u64,
+    most: u64,
+}
+
+impl Counts {
+    fn new() -> Counts {
+        Counts {
+            runs: 0,
+            calls: 0,
+            numbers: [0; 9],
+            words: [0; 3],
+            tables: [[0; 4]; TABLES.len()],
+            shapes: vec![0; 48 * 48],
+            greater: 0,
+            nan: 0,
+            infinite: 0,
+            passes: 0,
+            drops: 0,
+            most: 0,
+        }
+    }
+
+    fn add(&mut self, seen: &Seen, rows: usize, cols: usize, table: usize) {
+        let [number, _, word, passes, _, drops, _] = seen.report;
+        self.runs += 1;
+        self.calls += seen.calls;
+        self.numbers[number as usize] += 1;
+        self.words[word as usize] += 1;
+        let place = if number == 0 { word as usize } else { 0 };
+        self.tables[table][place] += 1;
+        if number == 0 {
+            self.shapes[(rows - 1) * 48 + cols - 1] += 1;
+        }
+        self.greater += u64::from(seen.greater);
+        self.nan += u64::from(seen.nan && number == 0);
+        self.infinite += u64::from(seen.infinite && number == 0);
+        self.tables[table][3] += u64::from((seen.nan || seen.infinite) && number == 0);
+        self.passes += passes;
+        self.drops += drops;
+        self.most = self.most.max(passes);
+    }
+
+    fn join(&mut self, other: &Counts) {
+        self.runs += other.runs;
+        self.calls += other.calls;
+        let add = |to: &mut [u64], from: &[u64]| to.iter_mut().zip(from).for_each(|(a, b)| *a += b);
+        add(&mut self.numbers, &other.numbers);
+        add(&mut self.words, &other.words);
+        add(&mut self.shapes, &other.shapes);
+        for (to, from) in self.tables.iter_mut().zip(&other.tables) {
+            add(to, from);
+        }
+        self.greater += other.greater;
+        self.nan += other.nan;
+        self.infinite += other.infinite;
+        self.passes += other.passes;
+        self.drops += other.drops;
+        self.most = self.most.max(other.most);
+    }
+
+    fn print(&self) {
+        println!(
+            "{} runs, {} calls of the library, each with one of the original",
+            self.runs, self.calls
+        );
+        println!(
+            "accepted {}: settled {}, stopped {}",
+            self.numbers[0], self.words[1], self.words[2]
+        );
+        for number in 1..9 {
+            println!("refused {number}: {}", self.numbers[number]);
+        }
+        println!(
+            "passes {} in all, {} of them drops, {} the most in a run",
+            self.passes, self.drops, self.most
+        );
+        println!(
+            "accepted with a NaN afterwards {}, with an infinity {}",
+            self.nan, self.infinite
+        );
+        println!("settled and run again at a greater limit {}", self.greater);
+        let shapes = self.shapes.iter().filter(|&&runs| runs > 0).count();
+        let least = self.shapes.iter().min().unwrap_or(&0);
+        println!("shapes accepted {shapes} of 2304, each at least {least} times");
+        println!(
+            "{:28}{:>10}{:>10}{:>10}{:>16}",
+            "table", "settled", "stopped", "refused", "NaN or infinity"
+        );
+        for (name, [refused, settled, stopped, strange]) in TABLES.iter().zip(self.tables) {
+            println!("{name:28}{settled:>10}{stopped:>10}{refused:>10}{strange:>16}");
+        }
+    }
+}
+
+/// A limit above the run's own, for the law of greater limits; for one run in four.
+fn greater(seed: u64, number: u64) -> Option<usize> {
+    let mixed = (seed ^ number).wrapping_mul(0x9E37_79B9_7F4A_7C15) >> 33;
+    let limit = [101, 150, 1_000, 100_000][(mixed >> 2) as usize % 4];
+    (mixed % 4 == 0).then_some(limit)
+}
+
+/// Run `number`, or what is wrong with it.
+fn one(seed: u64, number: u64, counts: &mut Counts) -> Result<(), String> {
+    let (run, table) = drawn(seed, number, Sizes::All);
+    let limit = greater(seed, number);
+    match check(&run, limit) {
+        Ok(seen) => {
+            counts.add(&seen, run.rows, run.cols, table);
+            Ok(())
+        }
+        Err(wrong) => {
+            let least = shrunk(&run, limit);
+            let still = check(&least, limit).err().unwrap_or_default();
+            Err(format!(
+                "run {number} of seed {seed}, {} x {}, {}\n{wrong}the smallest case found from it:\n{}{still}",
+                run.rows,
+                run.cols,
+                TABLES[table],
+                least.told()
+            ))
+        }
+    }
+}
+
+fn all(count: u64, seed: u64, threads: u64) -> Result<Counts, String> {
+    let (next, done, ended) = (AtomicU64::new(0), AtomicU64::new(0), AtomicBool::new(false));
+    let wrong = Mutex::new(None::<String>);
+    let whole = Mutex::new(Counts::new());
+    let start = Instant::now();
+    let work = || {
+        let mut counts = Counts::new();
+        loop {
+            let first = next.fetch_add(LOT, Relaxed);
+            if first >= count || ended.load(Relaxed) {
+                break;
+            }
+            for number in first..count.min(first + LOT) {
+                if let Err(text) = one(seed, number, &mut counts) {
+                    wrong.lock().unwrap().get_or_insert(text);
+                    ended.store(true, Relaxed);
+                    break;
+                }
+            }
+            done.fetch_add(LOT.min(count - first), Relaxed);
+        }
+        whole.lock().unwrap().join(&counts);
+    };
+    std::thread::scope(|scope| {
+        let workers: Vec<_> = (0..threads).map(|_| scope.spawn(work)).collect();
+        let mut told = Instant::now();
+        while workers.iter().any(|worker| !worker.is_finished()) {
+            std::thread::sleep(Duration::from_millis(50));
+            if told.elapsed() > Duration::from_secs(10) {
+                told = Instant::now();
+                let made = done.load(Relaxed);
+                let rate = made as f64 / start.elapsed().as_secs_f64();
+                eprintln!("{made} of {count} runs, {rate:.0} a second");
+            }
+        }
+    });
+    match wrong.into_inner().unwrap() {
+        Some(text) => Err(text),
+        None => Ok(whole.into_inner().unwrap()),
+    }
+}
+
+fn number(words: &[String], at: usize, default: u64) -> Result<u64, String> {
+    match words.get(at) {
+        None => Ok(default),
+        Some(word) => word
+            .parse()
+            .map_err(|_| format!("`{word}` is not a number")),
+    }
+}
+
+fn told() -> Result<(), String> {
+    let words: Vec<String> = std::env::args().skip(1).collect();
+    if words.first().is_some_and(|word| word == "only") {
+        let (seed, run) = (number(&words, 1, 1)?, number(&words, 2, 0)?);
+        print!("{}", drawn(seed, run, Sizes::All).0.told());
+        one(seed, run, &mut Counts::new())?;
+        println!("no difference");
+        return Ok(());
+    }
+    let threads = std::thread::available_parallelism().map_or(1, |many| many.get() as u64);
+    let (count, seed) = (number(&words, 0, 10_000_000)?, number(&words, 1, 1)?);
+    let start = Instant::now();
+    let counts = all(count, seed, number(&words, 2, threads)?)?;
+    counts.print();
+    println!(
+        "seed {seed}: {count} runs, 0 differ, {:.0} seconds",
+        start.elapsed().as_secs_f64()
+    );
+    Ok(())
+}
+
+fn main() -> ExitCode {
+    match told() {
+        Ok(()) => ExitCode::SUCCESS,
+        Err(text) => {
+            println!("{text}");
+            ExitCode::FAILURE
+        }
+    }
+}
