@@ -15,9 +15,8 @@ pub fn all() -> Vec<Case> {
     cases
 }
 
-/// U and V as the identity.
-pub(crate) fn identities(rows: usize, cols: usize) -> (Vec<f64>, Vec<f64>) {
-    (identity_flat(rows, rows), identity_flat(cols, cols))
+fn identities(rows: usize, cols: usize) -> Option<(Vec<f64>, Vec<f64>)> {
+    Some((identity_flat(rows, rows), identity_flat(cols, cols)))
 }
 
 /// A case that accumulates from the identity.
@@ -27,7 +26,7 @@ pub fn case(rows: usize, cols: usize, matrix: &[f64], settings: Settings) -> Cas
         cols,
         settings,
         matrix: matrix.to_vec(),
-        uv: Some(identities(rows, cols)),
+        uv: identities(rows, cols),
     }
 }
 

@@ -2,13 +2,13 @@
 //! another, where the first counts. Then runs at the bounds of what is accepted.
 
 use crate::Settings;
-use crate::vectors::{Run, Start};
+use crate::run::{Run, Start};
 
 /// A change to a run.
 type Fault = fn(&mut Run);
 
 /// The whole list, each run with the number that it is to be refused by; 0 where it is accepted.
-pub fn all() -> Vec<(usize, Run)> {
+pub fn all() -> Vec<(u64, Run)> {
     let mut runs = Vec::new();
     for kept in [true, false] {
         for (number, faults) in NUMBERS {
@@ -25,22 +25,22 @@ pub fn all() -> Vec<(usize, Run)> {
 }
 
 /// Whether only the accumulating call refuses by this number.
-fn is_factors(number: usize) -> bool {
+fn is_factors(number: u64) -> bool {
     number == 4 || number == 5
 }
 
 /// Lists of the lengths that the sizes ask for.
 fn fitted(run: &mut Run) {
     let list = |length: usize| (0..length).map(|at| at as f64 - 2.5).collect::<Vec<f64>>();
-    run.matrix = list(run.rows * run.columns);
-    run.start = Start::Given(list(run.rows * run.rows), list(run.columns * run.columns));
+    run.matrix = list(run.rows * run.cols);
+    run.start = Start::Given(list(run.rows * run.rows), list(run.cols * run.cols));
 }
 
 /// A 3 x 2 that is accepted, after the faults.
 fn with(kept: bool, faults: &[Fault]) -> Run {
     let mut run = Run {
         rows: 3,
-        columns: 2,
+        cols: 2,
         settings: Settings::DEFAULT,
         kept,
         matrix: Vec::new(),
@@ -72,7 +72,7 @@ const NO_ROWS: Fault = |run| {
     fitted(run);
 };
 const NO_COLUMNS: Fault = |run| {
-    run.columns = 0;
+    run.cols = 0;
     fitted(run);
 };
 const MANY_ROWS: Fault = |run| {
@@ -80,7 +80,7 @@ const MANY_ROWS: Fault = |run| {
     fitted(run);
 };
 const MANY_COLUMNS: Fault = |run| {
-    run.columns = 49;
+    run.cols = 49;
     fitted(run);
 };
 const SHORT: Fault = |run| run.matrix.truncate(run.matrix.len() - 1);
@@ -91,15 +91,15 @@ const BELOW_ZERO: Fault = |run| run.settings.tolerance = -1.0;
 const BAD_READING: Fault = |run| run.matrix[3] = f64::INFINITY;
 
 /// The faults of each number but 8.
-const NUMBERS: [(usize, &[Fault]); 7] = [
+const NUMBERS: [(u64, &[Fault]); 7] = [
     (
         1,
         &[
             NO_ROWS,
             NO_COLUMNS,
             |run| run.rows = 0,
-            |run| (run.rows, run.columns) = (0, 0),
-            |run| (run.rows, run.columns) = (0, usize::MAX),
+            |run| (run.rows, run.cols) = (0, 0),
+            |run| (run.rows, run.cols) = (0, usize::MAX),
         ],
     ),
     (
@@ -108,11 +108,11 @@ const NUMBERS: [(usize, &[Fault]); 7] = [
             MANY_ROWS,
             MANY_COLUMNS,
             |run| run.rows = 49,
-            |run| run.columns = 1 << 63,
+            |run| run.cols = 1 << 63,
             |run| run.rows = usize::MAX,
             // Rows times columns would be 0.
             |run| {
-                (run.rows, run.columns) = (1 << 32, 1 << 32);
+                (run.rows, run.cols) = (1 << 32, 1 << 32);
                 run.matrix.clear();
             },
         ],
@@ -205,7 +205,7 @@ fn bad_readings(kept: bool) -> impl Iterator<Item = Run> {
 }
 
 /// Faults of two numbers that follow one another.
-fn pairs(kept: bool) -> Vec<(usize, Run)> {
+fn pairs(kept: bool) -> Vec<(u64, Run)> {
     let mut faults = vec![
         (1, NO_ROWS),
         (2, MANY_COLUMNS),
@@ -217,12 +217,12 @@ fn pairs(kept: bool) -> Vec<(usize, Run)> {
         (8, BAD_READING),
     ];
     faults.retain(|&(number, _)| kept || !is_factors(number));
-    let pair = |two: &[(usize, Fault)]| (two[0].0, with(kept, &[two[0].1, two[1].1]));
+    let pair = |two: &[(u64, Fault)]| (two[0].0, with(kept, &[two[0].1, two[1].1]));
     faults.windows(2).map(pair).collect()
 }
 
 /// Refused with U and V filled with the identity.
-fn from_the_identity() -> impl Iterator<Item = (usize, Run)> {
+fn from_the_identity() -> impl Iterator<Item = (u64, Run)> {
     let faults = [
         (3, SHORT),
         (6, OVER_LIMIT),

@@ -14,7 +14,6 @@ pub struct Case {
     pub uv: Option<(Vec<f64>, Vec<f64>)>,
 }
 
-#[derive(Clone, Debug)]
 pub struct Answer {
     pub report: Report,
     pub matrix: Vec<f64>,

@@ -1,9 +1,9 @@
-//! The stored runs are what the program writes, their answers keep the rules, and a fault in one bit
-//! of an answer is seen.
+//! The stored runs are what the program writes, their replies keep the rules, and a fault in one bit
+//! of a reply is seen.
 
-use beside::text;
-use beside::vectors::{Answer, LONGEST, Run, Start, stored, summary, written};
-use beside::{Settings, Word, cases, refusals};
+use beside::run::{Reply, Run, Start};
+use beside::vectors::{LONGEST, reply, stored, summary, words, written};
+use beside::{Settings, cases, refusals};
 use std::fs;
 
 fn file(name: &str) -> Vec<u8> {
@@ -36,10 +36,10 @@ fn the_words_of_a_run() {
     let floor = 1 << 52;
     let head = [2, 2, 100, 50, tolerance, absolute, floor, 1, 0, 4, 4, 4];
     let report = [0, 0, 1, 1, 0, 1, 1];
-    let mut words = [&head[..], &[two, 0, 0, one], &report].concat();
-    words.extend([minus_two, 0, 0, one, minus_one, 0, 0, one, one, 0, 0, one]);
-    assert_eq!(run.words(&run.answer()), words);
-    let bytes: Vec<u8> = words.into_iter().flat_map(u64::to_le_bytes).collect();
+    let mut right = [&head[..], &[two, 0, 0, one], &report].concat();
+    right.extend([minus_two, 0, 0, one, minus_one, 0, 0, one, one, 0, 0, one]);
+    assert_eq!(words(&run, &reply(&run)), right);
+    let bytes: Vec<u8> = right.into_iter().flat_map(u64::to_le_bytes).collect();
     assert_eq!(written(&[run]), bytes);
 }
 
@@ -47,13 +47,13 @@ fn the_words_of_a_run() {
 fn the_words_of_a_refusal() {
     let run = Run {
         rows: 1 << 63,
-        columns: 2,
+        cols: 2,
         settings: Settings::LOW_FLOOR,
         kept: true,
         matrix: vec![f64::INFINITY],
         start: Start::Given(vec![], vec![1.0, 2.0]),
     };
-    let words = run.words(&run.answer());
+    let words = words(&run, &reply(&run));
     let (one, two) = (1f64.to_bits(), 2f64.to_bits());
     assert_eq!(words[..2], [1 << 63, 2]);
     assert_eq!(words[7..12], [1, 1, 1, 0, 2]);
@@ -88,56 +88,48 @@ fn each_run_ends_where_the_next_begins() {
     assert_eq!((at, runs), (words.len(), stored().len()));
 }
 
-/// Matrix, U and V in a row.
-fn entries(answer: &mut text::Answer) -> Vec<&mut f64> {
-    let (u, v) = match &mut answer.uv {
-        Some((u, v)) => (&mut u[..], &mut v[..]),
-        None => (&mut [][..], &mut [][..]),
-    };
-    answer.matrix.iter_mut().chain(u).chain(v).collect()
+/// An entry of matrix, U and V, in a row.
+fn entry(reply: &mut Reply, mut at: usize) -> &mut f64 {
+    for list in [&mut reply.matrix, &mut reply.u, &mut reply.v] {
+        if at < list.len() {
+            return &mut list[at];
+        }
+        at -= list.len();
+    }
+    unreachable!("no such entry")
 }
 
 /// Another value of one bit of an entry.
-fn flip(answer: &mut text::Answer, at: usize, bit: usize) {
-    let mut entries = entries(answer);
-    *entries[at] = f64::from_bits(entries[at].to_bits() ^ 1 << bit);
-}
-
-/// The other word.
-fn turn(word: &mut Word) {
-    *word = match word {
-        Word::Settled => Word::Stopped,
-        Word::Stopped => Word::Settled,
-    };
+fn flip(reply: &mut Reply, at: usize, bit: usize) {
+    let entry = entry(reply, at);
+    *entry = f64::from_bits(entry.to_bits() ^ 1 << bit);
 }
 
 #[test]
-fn a_bit_of_an_answer_is_seen() {
+fn a_bit_of_a_reply_is_seen() {
     for run in stored().iter().filter(|run| run.matrix.len() <= 16) {
-        let Answer::Accepted(mut answer) = run.answer() else {
-            continue;
-        };
-        let words = run.words(&run.answer());
-        let right = answer.clone();
-        let seen = |change: &dyn Fn(&mut text::Answer), place: usize| {
+        let right = reply(run);
+        let first = words(run, &right);
+        let seen = |change: &dyn Fn(&mut Reply), place: usize| {
             let mut wrong = right.clone();
             change(&mut wrong);
-            let other = run.words(&Answer::Accepted(wrong));
-            assert_eq!(other.len(), words.len());
-            let differ: Vec<usize> = (0..words.len()).filter(|&i| other[i] != words[i]).collect();
-            assert_eq!(differ, [place]);
+            let other = words(run, &wrong);
+            assert_eq!(other.len(), first.len());
+            let differ = (0..first.len()).filter(|&at| other[at] != first[at]);
+            assert_eq!(differ.collect::<Vec<usize>>(), [place]);
         };
-        let entries = entries(&mut answer).len();
-        let first = words.len() - entries;
-        for at in (0..entries).filter(|&at| words[first + at] != 0x7FF8_0000_0000_0000) {
-            seen(&|answer| flip(answer, at, 0), first + at);
-            seen(&|answer| flip(answer, at, 63), first + at);
+        let entries = match right.report[0] {
+            0 => right.matrix.len() + right.u.len() + right.v.len(),
+            _ => 0,
+        };
+        let lists = first.len() - entries;
+        for at in (0..entries).filter(|at| first[lists + at] != 0x7FF8_0000_0000_0000) {
+            seen(&|reply| flip(reply, at, 0), lists + at);
+            seen(&|reply| flip(reply, at, 63), lists + at);
         }
-        seen(&|answer| answer.report.range ^= 1, first - 1);
-        seen(&|answer| answer.report.drops ^= 1, first - 2);
-        seen(&|answer| answer.report.sweeps ^= 1, first - 3);
-        seen(&|answer| answer.report.passes ^= 1, first - 4);
-        seen(&|answer| turn(&mut answer.report.word), first - 5);
+        for at in 1..7 {
+            seen(&|reply| reply.report[at] ^= 1, lists - 7 + at);
+        }
     }
 }
 
@@ -145,11 +137,9 @@ fn a_bit_of_an_answer_is_seen() {
 fn nans_are_alike() {
     let run = Run::from(cases::case(1, 1, &[3.0], Settings::DEFAULT));
     let with = |bits: u64| {
-        let Answer::Accepted(mut answer) = run.answer() else {
-            unreachable!("accepted")
-        };
-        answer.matrix[0] = f64::from_bits(bits);
-        run.words(&Answer::Accepted(answer))
+        let mut reply = reply(&run);
+        reply.matrix[0] = f64::from_bits(bits);
+        words(&run, &reply)
     };
     assert_eq!(with(0x7FF8_0000_0000_0000), with(0xFFF0_0000_0000_0001));
     assert_ne!(with(0x7FF8_0000_0000_0000), with(0x7FF0_0000_0000_0000));
@@ -158,11 +148,7 @@ fn nans_are_alike() {
 #[test]
 fn refused_as_told() {
     for (told, run) in refusals::all() {
-        let number = match run.answer() {
-            Answer::Refused { number, .. } => number,
-            Answer::Accepted(_) => 0,
-        };
-        assert_eq!(number, told, "{run:?}");
+        assert_eq!(reply(&run).report[0], told, "{run:?}");
     }
 }
 
@@ -171,14 +157,7 @@ fn the_first_bad_reading_counts() {
     let mut run = Run::from(cases::case(2, 2, &[1.0; 4], Settings::DEFAULT));
     for place in (0..4).rev() {
         run.matrix[place] = f64::NAN;
-        let Answer::Refused {
-            number: 8,
-            place: told,
-        } = run.answer()
-        else {
-            panic!("refused by 8")
-        };
-        assert_eq!(told, place);
+        assert_eq!(reply(&run).report, [8, place as u64, 0, 0, 0, 0, 0]);
     }
 }
 
@@ -187,7 +166,7 @@ fn every_number_is_stored() {
     let told = refusals::all();
     for kept in [true, false] {
         for number in (0..=8).filter(|number| kept || ![4, 5].contains(number)) {
-            let such = |(given, run): &&(usize, Run)| *given == number && run.kept == kept;
+            let such = |(given, run): &&(u64, Run)| *given == number && run.kept == kept;
             assert!(told.iter().filter(such).count() >= 4, "{number}");
         }
     }
