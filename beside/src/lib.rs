@@ -4,10 +4,12 @@
 pub mod cases;
 pub mod kinds;
 mod record;
+pub mod refusals;
 pub mod run;
 pub mod survey;
 pub mod text;
 pub mod texts;
+pub mod vectors;
 
 /// The original, under the paths by which its files name each other.
 #[rustfmt::skip]

@@ -1,0 +1,173 @@
+//! The stored runs are what the program writes, their replies keep the rules, and a fault in one bit
+//! of a reply is seen.
+
+use beside::run::{Reply, Run, Start};
+use beside::vectors::{LONGEST, reply, stored, summary, words, written};
+use beside::{Settings, cases, refusals};
+use std::fs;
+
+fn file(name: &str) -> Vec<u8> {
+    let folder = concat!(env!("CARGO_MANIFEST_DIR"), "/../crates/vectors/");
+    fs::read(format!("{folder}{name}")).unwrap()
+}
+
+#[test]
+fn the_stored_file() {
+    let runs = stored();
+    assert!(
+        written(&runs) == file("stdin"),
+        "write crates/vectors/stdin"
+    );
+    assert_eq!(summary(&runs).as_bytes(), file("stdout"));
+}
+
+#[test]
+fn the_words_of_a_run() {
+    let run = Run::from(cases::case(
+        2,
+        2,
+        &[2.0, 0.0, 0.0, 1.0],
+        Settings::LOW_FLOOR,
+    ));
+    let (one, two) = (1f64.to_bits(), 2f64.to_bits());
+    let (minus_one, minus_two) = ((-1f64).to_bits(), (-2f64).to_bits());
+    let tolerance = 0x3DDB_7CDF_D9D7_BDBB;
+    let absolute = 0x3D71_9799_812D_EA11;
+    let floor = 1 << 52;
+    let head = [2, 2, 100, 50, tolerance, absolute, floor, 1, 0, 4, 4, 4];
+    let report = [0, 0, 1, 1, 0, 1, 1];
+    let mut right = [&head[..], &[two, 0, 0, one], &report].concat();
+    right.extend([minus_two, 0, 0, one, minus_one, 0, 0, one, one, 0, 0, one]);
+    assert_eq!(words(&run, &reply(&run)), right);
+    let bytes: Vec<u8> = right.into_iter().flat_map(u64::to_le_bytes).collect();
+    assert_eq!(written(&[run]), bytes);
+}
+
+#[test]
+fn the_words_of_a_refusal() {
+    let run = Run {
+        rows: 1 << 63,
+        cols: 2,
+        settings: Settings::LOW_FLOOR,
+        kept: true,
+        matrix: vec![f64::INFINITY],
+        start: Start::Given(vec![], vec![1.0, 2.0]),
+    };
+    let words = words(&run, &reply(&run));
+    let (one, two) = (1f64.to_bits(), 2f64.to_bits());
+    assert_eq!(words[..2], [1 << 63, 2]);
+    assert_eq!(words[7..12], [1, 1, 1, 0, 2]);
+    assert_eq!(words[12..15], [0x7FF0_0000_0000_0000, one, two]);
+    assert_eq!(words[15..], [2, 0, 0, 0, 0, 0, 0]);
+}
+
+#[test]
+fn each_run_ends_where_the_next_begins() {
+    let words: Vec<u64> = file("stdin")
+        .chunks_exact(8)
+        .map(|bytes| u64::from_le_bytes(bytes.try_into().unwrap()))
+        .collect();
+    let (mut at, mut runs) = (0, 0);
+    while at < words.len() {
+        let head = &words[at..at + 12];
+        let [kept, start, matrix, u, v] = head[7..] else {
+            unreachable!()
+        };
+        assert!(kept <= 1 && start <= kept);
+        assert!([matrix, u, v].iter().all(|&n| n <= LONGEST as u64));
+        assert!(kept == 1 || (u, v) == (0, 0));
+        at += 12 + (matrix + start * (u + v)) as usize;
+        let number = words[at];
+        assert!(number <= 8);
+        at += 7;
+        if number == 0 {
+            at += (matrix + u + v) as usize;
+        }
+        runs += 1;
+    }
+    assert_eq!((at, runs), (words.len(), stored().len()));
+}
+
+/// An entry of matrix, U and V, in a row.
+fn entry(reply: &mut Reply, mut at: usize) -> &mut f64 {
+    for list in [&mut reply.matrix, &mut reply.u, &mut reply.v] {
+        if at < list.len() {
+            return &mut list[at];
+        }
+        at -= list.len();
+    }
+    unreachable!("no such entry")
+}
+
+/// Another value of one bit of an entry.
+fn flip(reply: &mut Reply, at: usize, bit: usize) {
+    let entry = entry(reply, at);
+    *entry = f64::from_bits(entry.to_bits() ^ 1 << bit);
+}
+
+#[test]
+fn a_bit_of_a_reply_is_seen() {
+    for run in stored().iter().filter(|run| run.matrix.len() <= 16) {
+        let right = reply(run);
+        let first = words(run, &right);
+        let seen = |change: &dyn Fn(&mut Reply), place: usize| {
+            let mut wrong = right.clone();
+            change(&mut wrong);
+            let other = words(run, &wrong);
+            assert_eq!(other.len(), first.len());
+            let differ = (0..first.len()).filter(|&at| other[at] != first[at]);
+            assert_eq!(differ.collect::<Vec<usize>>(), [place]);
+        };
+        let entries = match right.report[0] {
+            0 => right.matrix.len() + right.u.len() + right.v.len(),
+            _ => 0,
+        };
+        let lists = first.len() - entries;
+        for at in (0..entries).filter(|at| first[lists + at] != 0x7FF8_0000_0000_0000) {
+            seen(&|reply| flip(reply, at, 0), lists + at);
+            seen(&|reply| flip(reply, at, 63), lists + at);
+        }
+        for at in 1..7 {
+            seen(&|reply| reply.report[at] ^= 1, lists - 7 + at);
+        }
+    }
+}
+
+#[test]
+fn nans_are_alike() {
+    let run = Run::from(cases::case(1, 1, &[3.0], Settings::DEFAULT));
+    let with = |bits: u64| {
+        let mut reply = reply(&run);
+        reply.matrix[0] = f64::from_bits(bits);
+        words(&run, &reply)
+    };
+    assert_eq!(with(0x7FF8_0000_0000_0000), with(0xFFF0_0000_0000_0001));
+    assert_ne!(with(0x7FF8_0000_0000_0000), with(0x7FF0_0000_0000_0000));
+}
+
+#[test]
+fn refused_as_told() {
+    for (told, run) in refusals::all() {
+        assert_eq!(reply(&run).report[0], told, "{run:?}");
+    }
+}
+
+#[test]
+fn the_first_bad_reading_counts() {
+    let mut run = Run::from(cases::case(2, 2, &[1.0; 4], Settings::DEFAULT));
+    for place in (0..4).rev() {
+        run.matrix[place] = f64::NAN;
+        assert_eq!(reply(&run).report, [8, place as u64, 0, 0, 0, 0, 0]);
+    }
+}
+
+#[test]
+fn every_number_is_stored() {
+    let told = refusals::all();
+    for kept in [true, false] {
+        for number in (0..=8).filter(|number| kept || ![4, 5].contains(number)) {
+            let such = |(given, run): &&(u64, Run)| *given == number && run.kept == kept;
+            assert!(told.iter().filter(such).count() >= 4, "{number}");
+        }
+    }
+}

@@ -1,0 +1,25 @@
+-- `vectors::main` meets its contract. Nothing has to hold from turn to turn; the measure is how many are left. Assumes nothing.
+use borrow.Author.Needs.{needs}
+use Rattle.vectors.proofs.main.Statement.{statement}
+use Rattle.vectors.proofs.main.Tie as tie
+
+abbrev Inv-loop : tie.InvT-loop
+Inv-loop tally₀ turns₀ tally turns = Unit {0}
+
+abbrev μ-loop : tie.MeasureT-loop
+μ-loop tally₀ turns₀ tally turns = turns
+
+pub main-spec : {M : Type 1} → statement M
+main-spec =
+    tie.close
+    (tie.spec
+    Inv-loop
+    μ-loop
+    (λ c κs. search needs)
+    (λ c. tt)
+    (λ c κs. search needs)
+    (λ c. search needs)
+    (λ c. search needs)
+    (λ c. tt)
+    (λ c κs. search needs)
+    (λ c. search needs))

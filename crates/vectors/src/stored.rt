@@ -1,0 +1,189 @@
+// How a run is stored. Words of 8 bytes, the lowest byte first; a double is the word of its bits:
+//   rows, columns, limit, credit, tolerance, absolute, floor,
+//   kept: 0 for the plain call, 1 for the accumulating one,
+//   start: 0 where U and V start as the identity, or there are none; 1 where they are stored,
+//   how long matrix, U and V are, each at most 49 x 49; with kept 0, U and V have length 0;
+//   the matrix, and with start 1, U and V;
+//   the answer: number, place, word (0 none, 1 settled, 2 stopped), passes, sweeps, drops, range;
+//   with number 0 the matrix, U and V afterwards; else they are as they were.
+use crate::bits::decode;
+use crate::bits::value;
+use crate::bits::word;
+use factors::identity::identity_flat;
+use svd::settings::Settings;
+ghost use mathlib.Core.Path.{_≡_};
+ghost use Prim.Native.Nat.{_≤_};
+ghost use lib.ListN.{length};
+
+// What is asked of the calls, and how long the lists are.
+pub(crate) struct Head {
+    pub(crate) rows: usize,
+    pub(crate) cols: usize,
+    pub(crate) settings: Settings,
+    pub(crate) kept: u64,
+    pub(crate) start: u64,
+    pub(crate) matrix: usize,
+    pub(crate) u: usize,
+    pub(crate) v: usize,
+}
+
+// The report that the original gave.
+pub(crate) struct Answer {
+    pub(crate) number: u64,
+    pub(crate) place: u64,
+    pub(crate) word: u64,
+    pub(crate) passes: u64,
+    pub(crate) sweeps: u64,
+    pub(crate) drops: u64,
+    pub(crate) range: u64,
+}
+
+// What was found where a head should be.
+pub(crate) enum Found {
+    End,
+    Malformed,
+    Head(Head),
+}
+
+// What was found where an answer should be.
+pub(crate) enum Told {
+    Malformed,
+    Answer(Answer),
+}
+
+// Room for the words of a head.
+fn head_room() -> [u8; 96]
+    ensures { λ r. ⌜ 96 ≡ length r ⌝ }
+{
+    [0; 96]
+}
+
+// Room for the words of an answer.
+fn answer_room() -> [u8; 56]
+    ensures { λ r. ⌜ 56 ≡ length r ⌝ }
+{
+    [0; 56]
+}
+
+// Room for the words of the longest list.
+fn list_room() -> [u8; 19208]
+    ensures { λ r. ⌜ 19208 ≡ length r ⌝ }
+{
+    [0; 19208]
+}
+
+// The settings of a head's words.
+fn settings_of(bytes: &[u8]) -> Settings
+    requires { ⌜ 96 ≤ length (now bytes) ⌝ }
+{
+    Settings {
+        limit: word(bytes, 16) as usize,
+        credit: word(bytes, 24) as usize,
+        tolerance: value(word(bytes, 32)),
+        absolute: value(word(bytes, 40)),
+        floor: value(word(bytes, 48)),
+    }
+}
+
+// The head of its words.
+fn head_of(bytes: &[u8]) -> Head
+    requires { ⌜ 96 ≤ length (now bytes) ⌝ }
+{
+    let settings = settings_of(bytes);
+    Head {
+        rows: word(bytes, 0) as usize,
+        cols: word(bytes, 8) as usize,
+        settings: settings,
+        kept: word(bytes, 56),
+        start: word(bytes, 64),
+        matrix: word(bytes, 72) as usize,
+        u: word(bytes, 80) as usize,
+        v: word(bytes, 88) as usize,
+    }
+}
+
+// The answer of its words.
+fn answer_of(bytes: &[u8]) -> Answer
+    requires { ⌜ 56 ≤ length (now bytes) ⌝ }
+{
+    Answer {
+        number: word(bytes, 0),
+        place: word(bytes, 8),
+        word: word(bytes, 16),
+        passes: word(bytes, 24),
+        sweeps: word(bytes, 32),
+        drops: word(bytes, 40),
+        range: word(bytes, 48),
+    }
+}
+
+// Whether a head is one that is stored: the plain call has no U and V.
+fn is_fit(head: Head) -> bool {
+    if head.kept == 0 {
+        return head.start == 0 && head.u == 0 && head.v == 0;
+    }
+    head.kept == 1 && head.start <= 1
+}
+
+// Reads the next head.
+pub(crate) fn read_head() -> Found {
+    let mut bytes = head_room();
+    let n = io::read_full(0, &mut bytes);
+    if n == 0 {
+        return Found::End;
+    }
+    if n < 96 {
+        return Found::Malformed;
+    }
+    let head = head_of(&bytes);
+    if is_fit(head) {
+        Found::Head(head)
+    } else {
+        Found::Malformed
+    }
+}
+
+// Reads the next answer.
+pub(crate) fn read_answer() -> Told {
+    let mut bytes = answer_room();
+    let n = io::read_full(0, &mut bytes);
+    if n < 56 {
+        return Told::Malformed;
+    }
+    Told::Answer(answer_of(&bytes))
+}
+
+// Fills the list from the next words, for which there is just the room; whether they are there.
+fn read_by(room: &mut [u8], list: &mut [f64]) -> bool {
+    let n = io::read_full(0, room);
+    n == room.len() && decode(room, list)
+}
+
+// Fills the list from the next words; whether they are there.
+pub(crate) fn read_list(list: &mut [f64]) -> bool {
+    let mut room = list_room();
+    if list.len() > 2401 {
+        return false;
+    }
+    let n = 8 * list.len();
+    read_by(&mut room[..n], list)
+}
+
+// Fills U and V with the identity; whether they are as long as it is.
+fn fill(u: &mut [f64], v: &mut [f64], head: Head) -> bool {
+    if identity_flat(u, head.rows) != 0 {
+        return false;
+    }
+    identity_flat(v, head.cols) == 0
+}
+
+// Makes U and V what they are at the start; whether that can be.
+pub(crate) fn begin(u: &mut [f64], v: &mut [f64], head: Head) -> bool {
+    if head.kept == 1 && head.start == 0 {
+        return fill(u, v, head);
+    }
+    if !read_list(u) {
+        return false;
+    }
+    read_list(v)
+}
