@@ -155,7 +155,14 @@ fn settings(draw: &mut Draw, small: bool) -> Settings {
     }
 }
 
-fn table(draw: &mut Draw, kind: usize, rows: usize, cols: usize, floor: f64) -> Vec<f64> {
+/// A table of the kind.
+pub(crate) fn table(
+    draw: &mut Draw,
+    kind: usize,
+    rows: usize,
+    cols: usize,
+    floor: f64,
+) -> Vec<f64> {
     let many = rows * cols;
     let fill = |draw: &mut Draw, entry: &mut dyn FnMut(&mut Draw) -> f64| -> Vec<f64> {
         (0..many).map(|_| entry(draw)).collect()

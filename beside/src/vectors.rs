@@ -1,18 +1,71 @@
 //! Runs of the calls with their replies, written as crates/vectors/src/stored.rt says and the program
 //! `vectors` replays them. In a reply every NaN is 7FF8000000000000.
 
+use crate::Settings;
+use crate::cases::{self, Draw};
+use crate::kinds::{Sizes, drawn, table};
+use crate::refusals;
 use crate::run::{Reply, Run, Start, alike, untouched};
 use crate::text::Case;
-use crate::{cases, refusals};
+use std::io::{self, Write};
 
 /// No list of a stored run may be longer: 49 x 49.
 pub const LONGEST: usize = 2401;
 
-/// The runs that are stored.
+/// The runs that are stored: the small cases, the refusals, drawn runs of every kind that make few
+/// passes, and large tables.
 pub fn stored() -> Vec<Run> {
     let mut runs: Vec<Run> = cases::all().into_iter().map(Run::from).collect();
     runs.extend(refusals::all().into_iter().map(|(_, run)| run));
+    for (most, many) in [(3, 500), (6, 600), (12, 170), (24, 30)] {
+        let drawn = (0..).map(|number| drawn(0x570E, number, Sizes::UpTo(most)).0);
+        runs.extend(
+            drawn
+                .filter(|run| reply(run).report[3] <= MOST_PASSES)
+                .take(many),
+        );
+    }
+    runs.extend(large());
     runs
+}
+
+/// No drawn run that is stored makes more passes.
+const MOST_PASSES: u64 = 2_000;
+
+/// Readings of an anemometer and any readings in the largest shapes, with the default settings.
+fn large() -> impl Iterator<Item = Run> {
+    let shapes = [
+        (48, 48),
+        (48, 47),
+        (12, 48),
+        (48, 12),
+        (48, 1),
+        (1, 48),
+        (31, 48),
+        (48, 31),
+    ];
+    shapes
+        .into_iter()
+        .enumerate()
+        .map(|(number, (rows, cols))| Run {
+            rows,
+            cols,
+            settings: Settings::DEFAULT,
+            kept: number != 1,
+            matrix: table(
+                &mut Draw(number as u64),
+                number % 2,
+                rows,
+                cols,
+                Settings::DEFAULT.floor,
+            ),
+            start: Start::Identity,
+        })
+}
+
+/// The first runs of a seed, of all sizes.
+pub fn lot(seed: u64, many: u64) -> impl Iterator<Item = Run> {
+    (0..many).map(move |number| drawn(seed, number, Sizes::All).0)
 }
 
 impl From<Case> for Run {
@@ -89,22 +142,33 @@ fn bits(x: f64) -> u64 {
 
 /// The runs with their replies, as they are stored.
 pub fn written(runs: &[Run]) -> Vec<u8> {
-    let words = runs.iter().flat_map(|run| words(run, &reply(run)));
-    words.flat_map(u64::to_le_bytes).collect()
+    let mut out = Vec::new();
+    write(runs.iter().cloned(), &mut out).expect("room for all");
+    out
+}
+
+/// Writes the runs with their replies, one by one.
+pub fn write(runs: impl Iterator<Item = Run>, out: &mut impl Write) -> io::Result<()> {
+    for run in runs {
+        let words = words(&run, &reply(&run));
+        let bytes: Vec<u8> = words.into_iter().flat_map(u64::to_le_bytes).collect();
+        out.write_all(&bytes)?;
+    }
+    Ok(())
 }
 
 /// The line that the program prints where nothing differs.
-pub fn summary(runs: &[Run]) -> String {
+pub fn summary(runs: impl Iterator<Item = Run>) -> String {
     let mut by_word = [0; 3];
     let mut passes = 0;
     for run in runs {
-        let report = reply(run).report;
+        let report = reply(&run).report;
         by_word[report[2] as usize] += 1;
         passes += report[3];
     }
     let [refused, settled, stopped] = by_word;
+    let many: u64 = by_word.iter().sum();
     format!(
-        "{} runs: {refused} refused, {settled} settled, {stopped} stopped, {passes} passes, 0 differ\n",
-        runs.len()
+        "{many} runs: {refused} refused, {settled} settled, {stopped} stopped, {passes} passes, 0 differ\n"
     )
 }

@@ -18,7 +18,7 @@ fn the_stored_file() {
         written(&runs) == file("stdin"),
         "write crates/vectors/stdin"
     );
-    assert_eq!(summary(&runs).as_bytes(), file("stdout"));
+    assert_eq!(summary(runs.iter().cloned()).as_bytes(), file("stdout"));
 }
 
 #[test]
