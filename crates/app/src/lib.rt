@@ -2,13 +2,13 @@
 // one after the other. Each promise is that of the call beneath it: nothing is asked of the caller
 // but that the pointers are good, what is unfit is refused by number, and a refused call writes
 // nothing.
+use checks::settings::Settings;
 use factors::identity::identity_flat;
 use factors::view::row_view;
 use svd::interface::full_svd_decomposition;
 use svd::interface::svd_decomposition;
 use svd::report::Report;
 use svd::report::Word;
-use svd::settings::Settings;
 ghost use mathlib.Core.Path.{_≡_};
 ghost use mathlib.Core.List.{[]};
 ghost use lib.Ieee.{binary64};

@@ -1,10 +1,10 @@
 // Runs both calls at the bounds of what they accept, and with two faults at a time for every pair of
 // neighbouring numbers. Prints a line for each: number, place, word, passes and range.
+use checks::settings::Settings;
 use svd::interface::full_svd_decomposition;
 use svd::interface::svd_decomposition;
 use svd::report::Report;
 use svd::report::Word;
-use svd::settings::Settings;
 ghost use mathlib.Core.Path.{_≡_};
 ghost use lib.ListN.{length};
 

@@ -17,8 +17,8 @@ use crate::reading::body;
 use crate::reading::contents;
 use crate::writing::put_outcome;
 use crate::writing::put_refusal;
+use checks::settings::Settings;
 use svd::report::Report;
-use svd::settings::Settings;
 
 mod numerals;
 mod reading;

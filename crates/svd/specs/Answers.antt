@@ -6,11 +6,12 @@ use lib.Ieee.{Float, binary64}
 use Rattle.method.specs.Work.{Work, work}
 use Rattle.method.specs.Outcome as Outcome
 use Rattle.method.specs.Outcome.{Outcome, outcomeOf, fullOutcome, plainOutcome}
+use Rattle.checks.specs.declared.settings.Settings.{Settings}
+use Rattle.checks.specs.Values.{settingsOf}
 use Rattle.svd.specs.declared.report.Report.{Report}
 use Rattle.svd.specs.declared.report.Word.{Word}
 use Rattle.svd.specs.declared.report.Word.the-variants.{None, Settled, Stopped}
-use Rattle.svd.specs.declared.settings.Settings.{Settings}
-use Rattle.svd.specs.Values.{settingsOf, wordOf, reportOf}
+use Rattle.svd.specs.Values.{wordOf, reportOf}
 
 -- ---- the report
 

@@ -1,5 +1,5 @@
 -- The code's values as the method's.
 pub mod Values
 pub mod Passes
-pub mod Checks
+pub mod Calls
 pub mod Answers

@@ -13,11 +13,9 @@ use Rattle.method.specs.Walk.{Walk as Counts}
 use Rattle.method.specs.Positions.{Corner}
 use Rattle.method.specs.Outcome as Outcome
 use Rattle.svd.specs.declared.givens.Rotation.{Rotation}
-use Rattle.svd.specs.declared.settings.Settings.{Settings}
 use Rattle.svd.specs.declared.report.Report.{Report}
 use Rattle.svd.specs.declared.report.Word.{Word}
 use Rattle.svd.specs.declared.report.Word.the-variants.{None, Settled, Stopped}
-use Rattle.svd.specs.declared.interface.Refusal.{Refusal}
 use Rattle.svd.specs.declared.shape.Shape.{Shape}
 use Rattle.svd.specs.declared.primitives.Walk.{Walk}
 
@@ -41,10 +39,6 @@ counts w = record { range = w .range; counter = w .counter; passes = w .passes; 
 abbrev pub corner : Walk → Corner
 corner w = record { range = w .range; inter = w .inter; coupling = w .e1; topLeft = w .tl; bottomLeft = w .bl; counter = w .counter }
 
--- the settings
-abbrev pub settingsOf : Settings → Outcome.Settings
-settingsOf s = record { limit = s .limit; credit = s .credit; tolerance = s .tolerance; absolute = s .absolute; floor = s .floor }
-
 -- the report's word
 abbrev pub wordOf : Word → Outcome.Word
 wordOf None = Outcome.none
@@ -63,10 +57,6 @@ reportOf r =
       drops = r .drops;
       range = r .range;
     }
-
--- a refusal
-abbrev pub refusalIn : Refusal → Outcome.Refusal
-refusalIn r = Outcome.refusal (r .number) (r .place)
 
 -- what making the reflection of column j from row i on leaves in the table and in the vector, and its tau
 pub record Taken (floor : Float) (rows stride i j : ℕ) (b b′ p : List Float) (tau : Float) : Type 0 where

@@ -9,8 +9,8 @@
 use crate::bits::decode;
 use crate::bits::value;
 use crate::bits::word;
+use checks::settings::Settings;
 use factors::identity::identity_flat;
-use svd::settings::Settings;
 ghost use mathlib.Core.Path.{_≡_};
 ghost use Prim.Native.Nat.{_≤_};
 ghost use lib.ListN.{length};

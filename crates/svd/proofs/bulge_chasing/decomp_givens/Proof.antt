@@ -5,7 +5,8 @@ use native.Mathlib.Omega.{arith}
 use mathlib.Core.Path.{sym, _∙_}
 use borrow.Author.Tests.{ltb-true, ltb-false}
 use Rattle.method.specs.Work.{work}
-use Rattle.svd.specs.Values.{sizes, settingsOf}
+use Rattle.checks.specs.Values.{settingsOf}
+use Rattle.svd.specs.Values.{sizes}
 use Rattle.svd.specs.Passes.{Inv, inv-start, inv-room, inv-drop, inv-sweep, inv-all, inv-narrow, inv-spent, test-asks, sweep-asks}
 use Rattle.svd.proofs.bulge_chasing.decomp_givens.Statement.{statement}
 use Rattle.svd.proofs.bulge_chasing.decomp_givens.Tie as tie

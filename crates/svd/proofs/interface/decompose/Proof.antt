@@ -3,7 +3,8 @@ use borrow.Author.Needs.{needs}
 use native.Mathlib.Omega.{arith}
 use lib.Ieee.{binary64}
 use Rattle.method.specs.Lengths.{bidiagonal-kept}
-use Rattle.svd.specs.Values.{sizes, settingsOf, roomy-kept, u-kept, v-kept}
+use Rattle.checks.specs.Values.{settingsOf}
+use Rattle.svd.specs.Values.{sizes, roomy-kept, u-kept, v-kept}
 use Rattle.svd.specs.Passes.{first-standing, decomposed}
 use Rattle.svd.proofs.interface.decompose.Statement.{statement}
 use Rattle.svd.proofs.interface.decompose.Tie as tie

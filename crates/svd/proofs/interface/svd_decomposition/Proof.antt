@@ -4,8 +4,8 @@ use mathlib.Core.Path.{refl}
 use mathlib.Core.Bool.{true, false}
 use mathlib.Core.List.{[]}
 use Rattle.method.specs.Work.{work}
-use Rattle.svd.specs.Values.{settingsOf}
-use Rattle.svd.specs.Checks.{refused-call, accepted-call, call-fit, fit-roomy, lent-none, plain-call}
+use Rattle.checks.specs.Values.{settingsOf}
+use Rattle.svd.specs.Calls.{refused-call, accepted-call, call-fit, fit-roomy, lent-none, plain-call}
 use Rattle.svd.proofs.interface.svd_decomposition.Statement.{statement}
 use Rattle.svd.proofs.interface.svd_decomposition.Tie as tie
 

@@ -1,0 +1,53 @@
+-- One check after another, as the definition has them. Assumes nothing.
+use borrow.Author.Needs.{needs}
+use Prim.Native.Nat.{_+_, _-_, _*_, _<_, _≤_, zero-le}
+use mathlib.Core.Path.{sym, _∙_}
+use native.Mathlib.Omega.{arith}
+use borrow.Author.Tests.{lt-ltb, le-ltb}
+use Rattle.method.specs.Index.{few}
+use Rattle.method.specs.Outcome.Refusals.{first-hit, first-miss, first-none}
+use Rattle.checks.specs.Passed.{not-large, not-wrong}
+use Rattle.checks.proofs.refusal.first_refusal.Statement.{statement}
+use Rattle.checks.proofs.refusal.first_refusal.Tie as tie
+
+returns : tie.Need-returns
+returns c = c .refuse .ensures ∙ sym (first-hit _ _ (sym (c .before .before .no-size .ensures) ∙ c .before .if1 .taken))
+
+returns-2 : tie.Need-returns-2
+returns-2 c = c .refuse2 .ensures ∙ sym (first-miss _ _ (sym (c .before .before .before .before .no-size .ensures) ∙ c .before .before .before .if1 .left) ∙ first-hit _ _ (sym (c .before .before .too-large .ensures) ∙ c .before .if2 .taken))
+
+mul-wrong-length : tie.Need-mul-wrong-length
+mul-wrong-length c = let l = not-large (c .before .before .before .before .before .before .before .args .rows) (c .before .before .before .before .before .before .before .args .cols) (sym (c .before .too-large .ensures) ∙ c .if2 .left) in record { fits = omega (arith, few (c .before .before .before .before .before .before .before .args .rows) (c .before .before .before .before .before .before .before .args .cols) (omega arith) (omega arith)) }
+
+returns-3 : tie.Need-returns-3
+returns-3 c = c .refuse3 .ensures ∙ sym (first-miss _ _ (sym (c .before .before .before .before .before .before .no-size .ensures) ∙ c .before .before .before .before .before .if1 .left) ∙ first-miss _ _ (sym (c .before .before .before .before .too-large .ensures) ∙ c .before .before .before .if2 .left) ∙ first-hit _ _ (sym (c .before .before .wrong-length .ensures) ∙ c .before .if3 .taken))
+
+mul-wrong-length-2 : tie.Need-mul-wrong-length-2
+mul-wrong-length-2 c = let l = not-large (c .before .before .before .before .before .before .before .before .before .args .rows) (c .before .before .before .before .before .before .before .before .before .args .cols) (sym (c .before .before .before .too-large .ensures) ∙ c .before .before .if2 .left) in record { fits = omega (arith, few (c .before .before .before .before .before .before .before .before .before .args .rows) (c .before .before .before .before .before .before .before .before .before .args .rows) (omega arith) (omega arith)) }
+
+returns-4 : tie.Need-returns-4
+returns-4 c = c .refuse4 .ensures ∙ sym (first-miss _ _ (sym (c .before .before .before .before .before .before .before .before .no-size .ensures) ∙ c .before .before .before .before .before .before .before .if1 .left) ∙ first-miss _ _ (sym (c .before .before .before .before .before .before .too-large .ensures) ∙ c .before .before .before .before .before .if2 .left) ∙ first-miss _ _ (sym (c .before .before .before .before .wrong-length .ensures) ∙ c .before .before .before .if3 .left) ∙ first-hit _ _ (sym (c .before .before .wrong-length2 .ensures) ∙ c .before .if4 .taken))
+
+mul-wrong-length-3 : tie.Need-mul-wrong-length-3
+mul-wrong-length-3 c = let l = not-large (c .before .before .before .before .before .before .before .before .before .before .before .args .rows) (c .before .before .before .before .before .before .before .before .before .before .before .args .cols) (sym (c .before .before .before .before .before .too-large .ensures) ∙ c .before .before .before .before .if2 .left) in record { fits = omega (arith, few (c .before .before .before .before .before .before .before .before .before .before .before .args .cols) (c .before .before .before .before .before .before .before .before .before .before .before .args .cols) (omega arith) (omega arith)) }
+
+returns-5 : tie.Need-returns-5
+returns-5 c = c .refuse5 .ensures ∙ sym (first-miss _ _ (sym (c .before .before .before .before .before .before .before .before .before .before .no-size .ensures) ∙ c .before .before .before .before .before .before .before .before .before .if1 .left) ∙ first-miss _ _ (sym (c .before .before .before .before .before .before .before .before .too-large .ensures) ∙ c .before .before .before .before .before .before .before .if2 .left) ∙ first-miss _ _ (sym (c .before .before .before .before .before .before .wrong-length .ensures) ∙ c .before .before .before .before .before .if3 .left) ∙ first-miss _ _ (sym (c .before .before .before .before .wrong-length2 .ensures) ∙ c .before .before .before .if4 .left) ∙ first-hit _ _ (sym (c .before .before .wrong-length3 .ensures) ∙ c .before .if5 .taken))
+
+returns-6 : tie.Need-returns-6
+returns-6 c = c .refuse6 .ensures ∙ sym (first-miss _ _ (sym (c .before .before .before .before .before .before .before .before .before .before .before .before .no-size .ensures) ∙ c .before .before .before .before .before .before .before .before .before .before .before .if1 .left) ∙ first-miss _ _ (sym (c .before .before .before .before .before .before .before .before .before .before .too-large .ensures) ∙ c .before .before .before .before .before .before .before .before .before .if2 .left) ∙ first-miss _ _ (sym (c .before .before .before .before .before .before .before .before .wrong-length .ensures) ∙ c .before .before .before .before .before .before .before .if3 .left) ∙ first-miss _ _ (sym (c .before .before .before .before .before .before .wrong-length2 .ensures) ∙ c .before .before .before .before .before .if4 .left) ∙ first-miss _ _ (sym (c .before .before .before .before .wrong-length3 .ensures) ∙ c .before .before .before .if5 .left) ∙ first-hit _ _ (sym (c .before .before .over-limit .ensures) ∙ c .before .if6 .taken))
+
+returns-7 : tie.Need-returns-7
+returns-7 c = c .refuse7 .ensures ∙ sym (first-miss _ _ (sym (c .before .before .before .before .before .before .before .before .before .before .before .before .before .before .no-size .ensures) ∙ c .before .before .before .before .before .before .before .before .before .before .before .before .before .if1 .left) ∙ first-miss _ _ (sym (c .before .before .before .before .before .before .before .before .before .before .before .before .too-large .ensures) ∙ c .before .before .before .before .before .before .before .before .before .before .before .if2 .left) ∙ first-miss _ _ (sym (c .before .before .before .before .before .before .before .before .before .before .wrong-length .ensures) ∙ c .before .before .before .before .before .before .before .before .before .if3 .left) ∙ first-miss _ _ (sym (c .before .before .before .before .before .before .before .before .wrong-length2 .ensures) ∙ c .before .before .before .before .before .before .before .if4 .left) ∙ first-miss _ _ (sym (c .before .before .before .before .before .before .wrong-length3 .ensures) ∙ c .before .before .before .before .before .if5 .left) ∙ first-miss _ _ (sym (c .before .before .before .before .over-limit .ensures) ∙ c .before .before .before .if6 .left) ∙ first-hit _ _ (sym (c .before .before .bounds-unfit .ensures) ∙ c .before .if7 .taken))
+
+first-bad-requires : tie.Need-first-bad-requires
+first-bad-requires c κs = let l = not-large (c .before .before .before .before .before .before .before .before .before .before .before .before .before .before .before .before .before .args .rows) (c .before .before .before .before .before .before .before .before .before .before .before .before .before .before .before .before .before .args .cols) (sym (c .before .before .before .before .before .before .before .before .before .before .before .too-large .ensures) ∙ c .before .before .before .before .before .before .before .before .before .before .if2 .left) in (not-wrong _ _ (sym (c .before .before .before .before .before .before .before .before .before .wrong-length .ensures) ∙ c .before .before .before .before .before .before .before .before .if3 .left), l .0, l .1)
+
+returns-8 : tie.Need-returns-8
+returns-8 c = c .refuse8 .ensures ∙ rw (c .before .before .first-bad .ensures) (sym (first-miss _ _ (sym (c .before .before .before .before .before .before .before .before .before .before .before .before .before .before .before .before .no-size .ensures) ∙ c .before .before .before .before .before .before .before .before .before .before .before .before .before .before .before .if1 .left) ∙ first-miss _ _ (sym (c .before .before .before .before .before .before .before .before .before .before .before .before .before .before .too-large .ensures) ∙ c .before .before .before .before .before .before .before .before .before .before .before .before .before .if2 .left) ∙ first-miss _ _ (sym (c .before .before .before .before .before .before .before .before .before .before .before .before .wrong-length .ensures) ∙ c .before .before .before .before .before .before .before .before .before .before .before .if3 .left) ∙ first-miss _ _ (sym (c .before .before .before .before .before .before .before .before .before .before .wrong-length2 .ensures) ∙ c .before .before .before .before .before .before .before .before .before .if4 .left) ∙ first-miss _ _ (sym (c .before .before .before .before .before .before .before .before .wrong-length3 .ensures) ∙ c .before .before .before .before .before .before .before .if5 .left) ∙ first-miss _ _ (sym (c .before .before .before .before .before .before .over-limit .ensures) ∙ c .before .before .before .before .before .if6 .left) ∙ first-miss _ _ (sym (c .before .before .before .before .bounds-unfit .ensures) ∙ c .before .before .before .if7 .left) ∙ first-hit _ _ (rw (c .before .before .first-bad .ensures) at (lt-ltb _ _ (c .before .if8 .taken)))))
+
+returns-9 : tie.Need-returns-9
+returns-9 c = c .refuse9 .ensures ∙ sym (first-miss _ _ (sym (c .before .before .before .before .before .before .before .before .before .before .before .before .before .before .before .before .no-size .ensures) ∙ c .before .before .before .before .before .before .before .before .before .before .before .before .before .before .before .if1 .left) ∙ first-miss _ _ (sym (c .before .before .before .before .before .before .before .before .before .before .before .before .before .before .too-large .ensures) ∙ c .before .before .before .before .before .before .before .before .before .before .before .before .before .if2 .left) ∙ first-miss _ _ (sym (c .before .before .before .before .before .before .before .before .before .before .before .before .wrong-length .ensures) ∙ c .before .before .before .before .before .before .before .before .before .before .before .if3 .left) ∙ first-miss _ _ (sym (c .before .before .before .before .before .before .before .before .before .before .wrong-length2 .ensures) ∙ c .before .before .before .before .before .before .before .before .before .if4 .left) ∙ first-miss _ _ (sym (c .before .before .before .before .before .before .before .before .wrong-length3 .ensures) ∙ c .before .before .before .before .before .before .before .if5 .left) ∙ first-miss _ _ (sym (c .before .before .before .before .before .before .over-limit .ensures) ∙ c .before .before .before .before .before .if6 .left) ∙ first-miss _ _ (sym (c .before .before .before .before .bounds-unfit .ensures) ∙ c .before .before .before .if7 .left) ∙ first-miss _ _ (rw (c .before .before .first-bad .ensures) at (le-ltb _ _ (c .before .if8 .left))) ∙ first-none)
+
+pub first-refusal-spec : {M : Type 1} → statement M
+first-refusal-spec = tie.close (tie.spec (λ c κs. search needs) (λ c κs. search needs) returns (λ c κs. search needs) (λ c κs. search needs) returns-2 mul-wrong-length (λ c κs. search needs) (λ c κs. search needs) returns-3 mul-wrong-length-2 (λ c κs. search needs) (λ c κs. search needs) returns-4 mul-wrong-length-3 (λ c κs. search needs) (λ c κs. search needs) returns-5 (λ c κs. search needs) (λ c κs. search needs) returns-6 (λ c κs. search needs) (λ c κs. search needs) returns-7 first-bad-requires (λ c κs. search needs) returns-8 (λ c κs. search needs) returns-9)

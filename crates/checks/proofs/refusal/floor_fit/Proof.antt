@@ -1,0 +1,15 @@
+-- By whether x is finite. Assumes nothing.
+use borrow.Author.Needs.{needs}
+use mathlib.Core.Path.{_≡_, refl, ap, _∙_}
+use Rattle.method.specs.Floats.{plusZero-64}
+use Rattle.checks.proofs.refusal.floor_fit.Statement.{statement}
+use Rattle.checks.proofs.refusal.floor_fit.Tie as tie
+
+returns : tie.Need-returns
+returns c = rw (plusZero-64, ← c .before .is-finite .ensures, c .if1 .taken) refl
+
+returns-2 : tie.Need-returns-2
+returns-2 c = rw (← c .before .is-finite .ensures, c .if1 .left) refl
+
+pub floor-fit-spec : {M : Type 1} → statement M
+floor-fit-spec = tie.close (tie.spec (λ c κs. search needs) returns returns-2)

@@ -1,0 +1,15 @@
+-- By the first test. Assumes nothing.
+use borrow.Author.Needs.{needs}
+use mathlib.Core.Path.{_≡_, refl, ap, _∙_}
+use borrow.Author.Tests.{eq-eqb, ne-eqb}
+use Rattle.checks.proofs.refusal.no_size.Statement.{statement}
+use Rattle.checks.proofs.refusal.no_size.Tie as tie
+
+returns : tie.Need-returns
+returns c = rw (eq-eqb _ _ (c .if1 .taken)) refl
+
+returns-2 : tie.Need-returns-2
+returns-2 c = rw (ne-eqb _ _ (c .if1 .left)) refl
+
+pub no-size-spec : {M : Type 1} → statement M
+no-size-spec = tie.close (tie.spec returns returns-2)

@@ -1,0 +1,15 @@
+-- By the first test. Assumes nothing.
+use borrow.Author.Needs.{needs}
+use mathlib.Core.Path.{_≡_, refl, ap, _∙_}
+use borrow.Author.Tests.{lt-ltb, le-ltb}
+use Rattle.checks.proofs.refusal.too_large.Statement.{statement}
+use Rattle.checks.proofs.refusal.too_large.Tie as tie
+
+returns : tie.Need-returns
+returns c = rw (lt-ltb _ _ (c .if1 .taken)) refl
+
+returns-2 : tie.Need-returns-2
+returns-2 c = rw (le-ltb _ _ (c .if1 .left)) refl
+
+pub too-large-spec : {M : Type 1} → statement M
+too-large-spec = tie.close (tie.spec returns returns-2)

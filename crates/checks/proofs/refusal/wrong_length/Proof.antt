@@ -1,0 +1,14 @@
+-- By whether the list is kept. Assumes nothing.
+use borrow.Author.Needs.{needs}
+use mathlib.Core.Path.{_≡_, refl, ap, _∙_}
+use Rattle.checks.proofs.refusal.wrong_length.Statement.{statement}
+use Rattle.checks.proofs.refusal.wrong_length.Tie as tie
+
+returns : tie.Need-returns
+returns c = rw (c .if1 .taken) refl
+
+returns-2 : tie.Need-returns-2
+returns-2 c = rw (c .if1 .left) refl
+
+pub wrong-length-spec : {M : Type 1} → statement M
+wrong-length-spec = tie.close (tie.spec returns returns-2)

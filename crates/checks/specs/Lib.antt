@@ -1,0 +1,4 @@
+-- The settings and the refusal as the method's, what the proofs go by, and that the promises allow one answer.
+pub mod Values
+pub mod Passed
+pub mod Answers

@@ -1,0 +1,116 @@
+// The first refusal that applies to a call, looked for before any number is touched.
+ghost use mathlib.Core.Path.{_≡_};
+ghost use mathlib.Core.Bool.{true, not, _&&_, _||_};
+ghost use lib.Dec.{eqb, ltb};
+ghost use Rattle.method.specs.Work.{work};
+ghost use Rattle.method.specs.Outcome.{boundFit, floorFit, refusal, refusalOf};
+ghost use Rattle.checks.specs.Values.{settingsOf, refusalIn};
+use crate::search::first_bad;
+use crate::search::is_finite;
+use crate::settings::Settings;
+
+// The number of a refusal and its place; both 0 where there is none.
+pub struct Refusal {
+    pub number: usize,
+    pub place: usize,
+}
+
+fn refuse(number: usize, place: usize) -> Refusal
+    ensures { λ r. ⌜ refusalIn r ≡ refusal number place ⌝ }
+{
+    Refusal {
+        number: number,
+        place: place,
+    }
+}
+
+fn no_size(rows: usize, cols: usize) -> bool
+    ensures { λ r. ⌜ r ≡ (eqb rows 0 || eqb cols 0) ⌝ }
+{
+    rows == 0 || cols == 0
+}
+
+fn too_large(rows: usize, cols: usize) -> bool
+    ensures { λ r. ⌜ r ≡ (ltb 48 rows || ltb 48 cols) ⌝ }
+{
+    rows > 48 || cols > 48
+}
+
+// A list that the call keeps has another length than it must.
+fn wrong_length(kept: bool, len: usize, whole: usize) -> bool
+    ensures { λ r. ⌜ r ≡ (kept && not (eqb len whole)) ⌝ }
+{
+    kept && len != whole
+}
+
+fn over_limit(s: Settings) -> bool
+    ensures { λ r. ⌜ r ≡ (ltb 100000 (s .limit) || ltb 1000 (s .credit)) ⌝ }
+{
+    s.limit > 100000 || s.credit > 1000
+}
+
+// Finite and not below zero.
+fn bound_fit(x: f64) -> bool
+    ensures { λ r. ⌜ r ≡ boundFit x ⌝ }
+{
+    is_finite(x) && !(x < 0.0)
+}
+
+// Finite and above zero.
+fn floor_fit(x: f64) -> bool
+    ensures { λ r. ⌜ r ≡ floorFit x ⌝ }
+{
+    is_finite(x) && 0.0 < x
+}
+
+fn bounds_unfit(s: Settings) -> bool
+    ensures { λ r. ⌜ r ≡ not (boundFit (s .tolerance) && boundFit (s .absolute) && floorFit (s .floor)) ⌝ }
+{
+    if bound_fit(s.tolerance) {
+        if bound_fit(s.absolute) {
+            return !floor_fit(s.floor);
+        }
+    }
+    true
+}
+
+// The first refusal that applies, in the order of the numbers; the plain call keeps no factors, and
+// has no 4 and 5.
+pub fn first_refusal(
+    b: &[f64],
+    u: &[f64],
+    v: &[f64],
+    kept: bool,
+    rows: usize,
+    cols: usize,
+    s: Settings,
+) -> Refusal
+    ensures { λ r. ⌜ refusalIn r ≡ refusalOf kept rows cols (settingsOf s) (work (now (b .entry)) (now (u .entry)) (now (v .entry))) ⌝ }
+{
+    if no_size(rows, cols) {
+        return refuse(1, 0);
+    }
+    if too_large(rows, cols) {
+        return refuse(2, 0);
+    }
+    if wrong_length(true, b.len(), rows * cols) {
+        return refuse(3, 0);
+    }
+    if wrong_length(kept, u.len(), rows * rows) {
+        return refuse(4, 0);
+    }
+    if wrong_length(kept, v.len(), cols * cols) {
+        return refuse(5, 0);
+    }
+    if over_limit(s) {
+        return refuse(6, 0);
+    }
+    if bounds_unfit(s) {
+        return refuse(7, 0);
+    }
+    let at = first_bad(b, rows, cols);
+    if at < b.len() {
+        return refuse(8, at);
+    }
+    refuse(0, 0)
+}

@@ -1,0 +1,79 @@
+-- The two ways out of a call, and what the kernels may lean on where the checks were passed. Assumes nothing.
+use mathlib.Core.Path.{_≡_, refl, sym, ap, _∙_}
+use mathlib.Core.Bool.{Bool, true, false}
+use mathlib.Core.List.{List, [], _∷_}
+use Prim.Native.Nat.{ℕ, _*_, _≤_, zero-le}
+use native.Mathlib.Nat.{le-refl, le-of-eq, zero-mul}
+use lib.ListN.{length}
+use lib.Ieee.{Float, binary64}
+use Rattle.method.specs.Work.{Work, work, packed}
+use Rattle.method.specs.Lengths.{SameLengths, outcome-lengths}
+use Rattle.method.specs.Walk.{Walk as Counts, State, stands}
+use Rattle.method.specs.Outcome.{Settings, Report, Refusal, Outcome, outcomeOf, refused, reported, refusalOf, walkedFrom, accepted, outcome}
+use Rattle.method.specs.Outcome.Refusals.{Fit, fit, refused-outcome, accepted-outcome}
+use Rattle.svd.specs.Values.{Roomy, Lent}
+use native.Mathlib.Omega.{arith}
+
+-- ---- the two ways out of a call
+
+module _ (kept : Bool) (rows cols : ℕ) (s : Settings) (w : Work) where
+  -- a refused call reports the refusal, and leaves the lists as they were
+  pub refused-call :
+      (r : Refusal) (report : Report) →
+      r ≡ refusalOf kept rows cols s w →
+      (r .number ≡ 0 → ⊥) →
+      report ≡ refused r →
+      outcomeOf report w ≡ outcome binary64 kept rows cols s w
+  refused-call r report e some q =
+      let h : refusalOf kept rows cols s w .number ≡ 0 → ⊥ = λ z. some (ap (λ (x : Refusal). x .number) e ∙ z) in
+      rw (q, e) (sym (refused-outcome binary64 kept rows cols s w h))
+
+  -- an accepted call reports the walk
+  pub accepted-call :
+      (r : Refusal) (report : Report) (last : Counts) (w′ : Work) →
+      r ≡ refusalOf kept rows cols s w →
+      r .number ≡ 0 →
+      report ≡ reported last →
+      stands last w′ ≡ walkedFrom binary64 (packed kept rows cols) rows cols s w →
+      outcomeOf report w′ ≡ outcome binary64 kept rows cols s w
+  unfolding accepted
+  accepted-call r report last w′ e none q d =
+      let h : refusalOf kept rows cols s w .number ≡ 0 = ap (λ (x : Refusal). x .number) (sym e) ∙ none in
+      rw (q, accepted-outcome binary64 kept rows cols s w h) (ap (λ (x : State Work). outcomeOf (reported (x .walk)) (x .held)) d)
+
+  -- what a call that is not refused may lean on
+  pub call-fit : (r : Refusal) → r ≡ refusalOf kept rows cols s w → r .number ≡ 0 → Fit kept rows cols s w
+  call-fit r e none = fit kept rows cols s w (ap (λ (x : Refusal). x .number) (sym e) ∙ none)
+
+  -- the packed table lies in its list
+  pub fit-roomy : Fit kept rows cols s w → Roomy (packed kept rows cols) (w .matrix)
+  fit-roomy f =
+      record {
+        rows-few = f .rows-few;
+        cols-few = f .cols-few;
+        stride-few = omega (arith, f .cols-few);
+        wide = le-refl cols;
+        whole = le-of-eq (sym (f .matrix-length));
+      }
+
+-- a whole square factor lies in its list, and so does one of which nothing is kept
+pub lent-whole : (n : ℕ) (a : List Float) → n ≤ 48 → length a ≡ n * n → Lent n n a
+lent-whole n a h e = record { few = h; whole = le-of-eq (sym e) }
+
+pub lent-none : (n : ℕ) (a : List Float) → Lent n 0 a
+lent-none n a = record { few = zero-le; whole = rw zero-mul zero-le }
+
+-- ---- the plain call lends two empty lists of its own
+
+empty : (a : List Float) → length a ≡ 0 → a ≡ []
+empty [] e = refl
+empty (x ∷ a) e = absurd (let z : ⊥ = omega arith in z)
+
+-- and they come back empty
+pub plain-call :
+    (rows cols : ℕ) (s : Settings) (report : Report) (b b′ u′ v′ : List Float) →
+    outcomeOf report (work b′ u′ v′) ≡ outcome binary64 false rows cols s (work b [] []) →
+    outcomeOf report (work b′ [] []) ≡ outcome binary64 false rows cols s (work b [] [])
+plain-call rows cols s report b b′ u′ v′ e =
+    let l : SameLengths (work b [] []) (work b′ u′ v′) = rw (← ap (λ (o : Outcome). o .held) e) at (outcome-lengths binary64 false rows cols s (work b [] [])) in
+    rw (empty u′ (l .u), empty v′ (l .v)) at e
