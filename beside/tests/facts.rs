@@ -154,3 +154,22 @@ fn nothing_is_fused() {
         assert_eq!(columns[0], 0.0);
     }
 }
+
+/// `apply_gt_right` and the form that the rules give, c x i + s x j and (-s) x i + c x j.
+#[test]
+fn columns_turn_as_the_rules_say() {
+    let mut state = 1u64;
+    let mut bits = || {
+        state = state
+            .wrapping_mul(6364136223846793005)
+            .wrapping_add(1442695040888963407);
+        f64::from_bits(state ^ (state >> 29))
+    };
+    for _ in 0..2_000_000 {
+        let (cosine, sine, i, j) = (bits(), bits(), bits(), bits());
+        let mut pair = [i, j];
+        apply_gt_right(&mut pair, 0, 1, 2, 1, cosine, sine);
+        let rules = [cosine * i + sine * j, -sine * i + cosine * j];
+        assert_eq!(hexes(&pair), hexes(&rules));
+    }
+}
