@@ -164,6 +164,11 @@ static void refusals(void) {
             REFUSED(first, 0, unfit(first); unfit(other));
         }
     }
+    /* a pointer with length 0 is not followed */
+    merotunki_answer answer;
+    CHECK(merotunki_svd(&answer, NULL, 0, 4, 3, 100, 50, 0, 0, 1)->number == 3);
+    CHECK(merotunki_full_svd(&answer, NULL, 0, NULL, 0, NULL, 0, 4, 3, 100, 50, 0, 0, 1)->number == 3);
+    CHECK(merotunki_identity(NULL, 0, 2) == 4);
     /* and what is not refused */
     static const size_t sizes[][2] = {{1, 1}, {48, 48}, {48, 1}, {1, 48}};
     for (size_t i = 0; i < 4; i++) {
@@ -234,24 +239,42 @@ static double distance(const job *j, const double *was) {
     return total;
 }
 
-static const size_t shapes[][2] = {{1, 1}, {1, 7}, {7, 1}, {2, 2}, {3, 5}, {5, 3}, {8, 8}, {16, 48}, {48, 17}, {48, 48}};
-#define SHAPES (sizeof shapes / sizeof *shapes)
+/* Drawn tables, and for each the passes and a sum over the bits of matrix, U and V, as the original Rust gives them
+ * (by the oracle in beside/). */
+static const struct known {
+    size_t rows, columns;
+    uint64_t passes, sum;
+} answers[] = {
+    {1, 1, 0, UINT64_C(0x3159F754ACA15057)},     {1, 7, 0, UINT64_C(0x014C4C0133E42B9D)},
+    {7, 1, 0, UINT64_C(0x881D90FA72676BAC)},     {2, 2, 2, UINT64_C(0xA0D61E8BEA8827CC)},
+    {3, 5, 5, UINT64_C(0xD8E8EA386B72070B)},     {5, 3, 8, UINT64_C(0x959C80C81842B9B5)},
+    {8, 8, 21, UINT64_C(0x010B05660EF4375E)},    {16, 48, 46, UINT64_C(0xF251AC3E5A1E9DE9)},
+    {48, 17, 52, UINT64_C(0x3AC4289425D94029)},  {48, 48, 128, UINT64_C(0xE5CEE60EB3644596)},
+};
+#define ANSWERS (sizeof answers / sizeof *answers)
+
+static uint64_t summed(uint64_t sum, const double *a, size_t length) {
+    for (size_t i = 0; i < length; i++) sum = (sum ^ bits(a[i])) * UINT64_C(0x100000001B3);
+    return sum;
+}
 
 static void both(void) {
     static job a, b;
-    for (size_t i = 0; i < SHAPES; i++) {
-        prepare(&a, shapes[i][0], shapes[i][1]);
+    static double was[LONG];
+    for (size_t i = 0; i < ANSWERS; i++) {
+        seed = i;
+        prepare(&a, answers[i].rows, answers[i].columns);
         b = a;
-        static double was[LONG];
         memcpy(was, a.matrix, sizeof was);
         plain(&a);
         full(&b);
         CHECK(a.answer.number == 0 && a.answer.word == MEROTUNKI_SETTLED && a.answer.range == 1);
-        CHECK(a.answer.passes == a.answer.sweeps + a.answer.drops);
+        CHECK(a.answer.passes == answers[i].passes && a.answer.passes == a.answer.sweeps + a.answer.drops);
         CHECK(same(a.matrix, b.matrix, LONG) && memcmp(&a.answer, &b.answer, sizeof a.answer) == 0);
         CHECK(same(a.matrix + a.matrix_length, was + a.matrix_length, LONG - a.matrix_length));
         CHECK(distance(&b, was) < 1e-9);
-        CHECK(shapes[i][0] * shapes[i][1] == 1 || !same(a.matrix, was, a.matrix_length));
+        uint64_t sum = summed(UINT64_C(0xCBF29CE484222325), b.matrix, b.matrix_length);
+        CHECK(summed(summed(sum, b.u, b.u_length), b.v, b.v_length) == answers[i].sum);
     }
 }
 

@@ -50,31 +50,39 @@ fn known_tables() {
     assert_eq!(Table::new(&mut a, 2, 2).unwrap().split(&short), Ok(stopped));
 }
 
+// Drawn tables, and for each the walk's passes and a sum over the bits of table, U and V, as the
+// original Rust gives them (by the oracle in beside/).
+const ANSWERS: [(usize, usize, u64, u64); 10] = [
+    (1, 1, 0, 0x3159F754ACA15057),
+    (1, 7, 0, 0x014C4C0133E42B9D),
+    (7, 1, 0, 0x881D90FA72676BAC),
+    (2, 2, 2, 0xA0D61E8BEA8827CC),
+    (3, 5, 5, 0xD8E8EA386B72070B),
+    (5, 3, 8, 0x959C80C81842B9B5),
+    (8, 8, 21, 0x010B05660EF4375E),
+    (16, 48, 46, 0xF251AC3E5A1E9DE9),
+    (48, 17, 52, 0x3AC4289425D94029),
+    (48, 48, 128, 0xE5CEE60EB3644596),
+];
+
 #[test]
-fn plain_is_accumulating() {
-    for (i, (stations, passes)) in
-        [(1, 1), (1, 9), (6, 1), (4, 7), (7, 4), (20, 20), (48, 48)].into_iter().enumerate()
-    {
+fn plain_is_accumulating_is_the_original() {
+    for (i, (stations, passes, walked, sum)) in ANSWERS.into_iter().enumerate() {
         let was = drawn(i as u64, stations * passes);
         let (mut a, mut b) = (was.clone(), was.clone());
         let report = Table::new(&mut a, stations, passes).unwrap().split(&Settings::default());
         let mut table = Table::new(&mut b, stations, passes).unwrap();
         let mut factors = Factors::new(&table);
         assert_eq!(table.split_with(&mut factors, &Settings::default()), report);
-        assert!(matches!(report, Ok(Report::Settled { .. })));
+        assert!(matches!(report, Ok(Report::Settled { passes, .. }) if passes == walked));
         let values: Vec<f64> = table.values().collect();
         assert_eq!(values.len(), stations.min(passes));
         assert!((0..values.len()).all(|k| values[k] == a[k * passes + k]));
         assert_eq!(bits(&a), bits(&b));
-        // U x entries x (V transposed) is the table as it was
-        let (u, v) = (|i, k| factors.station(i).unwrap()[k], |j, l| factors.pass(j).unwrap()[l]);
-        for (at, reading) in was.iter().enumerate() {
-            let (i, j) = (at / passes, at % passes);
-            let sum: f64 = (0..stations)
-                .map(|k| u(i, k) * (0..passes).map(|l| b[k * passes + l] * v(j, l)).sum::<f64>())
-                .sum();
-            assert!((sum - reading).abs() < 1e-12 * 8.0 * 48.0);
-        }
+        let (u, v) = rows(&factors, stations, passes);
+        let all = bits(&b).into_iter().chain(bits(&u)).chain(bits(&v));
+        let step = |sum: u64, word: u64| (sum ^ word).wrapping_mul(0x100000001B3);
+        assert_eq!(all.fold(0xCBF29CE484222325, step), sum);
     }
 }
 
