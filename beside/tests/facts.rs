@@ -54,6 +54,27 @@ fn rotations() {
     assert!(rotation(1.0, -1.0).2 < 0.0);
 }
 
+/// The rotations that the definitions are held to in crates/method/specs/Cases.antt (`slips`).
+#[test]
+fn rotations_of_the_slips() {
+    let shown = |a: f64, b: f64| {
+        let (radius, cosine, sine) = rotation(a, b);
+        [radius, cosine, sine].map(hex)
+    };
+    assert_eq!(
+        shown(1.0, -1.0),
+        ["3FF6A09E667F3BCD", "3FE6A09E667F3BCC", "BFE6A09E667F3BCC"]
+    );
+    assert_eq!(
+        shown(0.0, -3.0),
+        ["C008000000000000", "0000000000000000", "3FF0000000000000"]
+    );
+    assert_eq!(
+        shown(4.0, -3.0),
+        ["4014000000000000", "3FE999999999999A", "BFE3333333333334"]
+    );
+}
+
 #[test]
 fn singulars() {
     assert_eq!(singular(2.0, 0.0, 0.0, 1.0), 1.0);
@@ -113,6 +134,12 @@ fn floor_decides() {
 fn tables_that_stop() {
     assert_eq!(answer(2, 2, &[0.0, 1.0, 0.0, 1.0], DEFAULT).report.range, 2);
     assert!(answer(3, 3, &[1.0; 9], DEFAULT).report.range > 1);
+    let patient = Settings {
+        limit: 100_000,
+        ..DEFAULT
+    };
+    assert_eq!(answer(2, 2, &[0.0, 1.0, 0.0, 1.0], patient).report.range, 2);
+    assert!(answer(3, 3, &[1.0; 9], patient).report.range > 1);
 }
 
 #[test]
@@ -152,5 +179,24 @@ fn nothing_is_fused() {
         let mut columns = table;
         apply_gt_right(&mut columns, 0, 1, 2, 1, cosine, sine);
         assert_eq!(columns[0], 0.0);
+    }
+}
+
+/// `apply_gt_right` and the form that the rules give, c x i + s x j and (-s) x i + c x j.
+#[test]
+fn columns_turn_as_the_rules_say() {
+    let mut state = 1u64;
+    let mut bits = || {
+        state = state
+            .wrapping_mul(6364136223846793005)
+            .wrapping_add(1442695040888963407);
+        f64::from_bits(state ^ (state >> 29))
+    };
+    for _ in 0..2_000_000 {
+        let (cosine, sine, i, j) = (bits(), bits(), bits(), bits());
+        let mut pair = [i, j];
+        apply_gt_right(&mut pair, 0, 1, 2, 1, cosine, sine);
+        let rules = [cosine * i + sine * j, -sine * i + cosine * j];
+        assert_eq!(hexes(&pair), hexes(&rules));
     }
 }

@@ -10,7 +10,10 @@ fn main() {
     let given = env::var("MEROTUNKI_LIBRARY").unwrap_or_else(|_| "../../target/native".to_string());
     let archive = Path::new(&given).join("libapp.a");
     let Ok(found) = fs::canonicalize(&archive) else {
-        eprintln!("\nNo {}: run `tools/native app` in the top folder, or set MEROTUNKI_LIBRARY.\n", archive.display());
+        eprintln!(
+            "\nNo {}: run `tools/native app` in the top folder, or set MEROTUNKI_LIBRARY.\n",
+            archive.display()
+        );
         process::exit(1);
     };
     println!("cargo:rerun-if-changed={}", found.display());

@@ -122,6 +122,13 @@ fn breaks(run: &Run, kept: bool, got: &Reply, greater: Option<usize>) -> Option<
     .then_some("law of greater limits")
 }
 
+fn reached(run: &Run, got: &Reply) -> bool {
+    let [_, _, _, passes, _, drops, _] = got.report;
+    let card = run.rows.min(run.cols) as u64;
+    let (limit, credit) = (run.settings.limit as u64, run.settings.credit as u64);
+    card > 2 && credit > 0 && drops > 0 && passes == limit + credit * (card - 2)
+}
+
 /// What was seen in one run.
 #[derive(Clone, Debug, Default)]
 pub struct Seen {
@@ -129,6 +136,8 @@ pub struct Seen {
     pub report: [u64; 7],
     pub calls: u64,
     pub greater: bool,
+    /// Something was dropped, and the passes are as many as the bound allows.
+    pub reached: bool,
     /// A NaN or an infinity in the table afterwards.
     pub nan: bool,
     pub infinite: bool,
@@ -159,6 +168,7 @@ pub fn check(run: &Run, greater: Option<usize>) -> Result<Seen, String> {
                 return Err(format!("{call} call: {law}, {:?}\n", got.report));
             }
             seen.greater |= greater.is_some() && got.report[2] == 1;
+            seen.reached |= reached(run, &got);
         }
         if let Some(full) = &before
             && ![4, 5].contains(&full.report[0])

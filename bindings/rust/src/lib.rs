@@ -1,2 +1,47 @@
-//! The proved split.
+//! The proved singular value split of a survey's table of readings.
+//!
+//! Stations are the rows, passes are the columns. The split tells the roadway's own profile from the
+//! fan's drift: U goes with the stations (row 4 of U is station 4), V with the passes.
+//!
+//! ```
+//! use merotunki::{Factors, Report, Settings, Table};
+//!
+//! let mut readings = [2.0, 0.0, 0.0, 1.0]; // 2 stations, 2 passes, station by station
+//! let mut table = Table::new(&mut readings, 2, 2)?;
+//! let mut factors = Factors::new(&table);
+//! let report = table.split_with(&mut factors, &Settings::default())?;
+//! assert_eq!(report, Report::Settled { passes: 1, sweeps: 0, drops: 1 });
+//! assert_eq!(table.values().collect::<Vec<_>>(), [-2.0, 1.0]);
+//! assert_eq!(factors.station(0), Some(&[-1.0, 0.0][..]));
+//! assert_eq!(factors.station(2), None);
+//! # Ok::<(), merotunki::Refusal>(())
+//! ```
+//!
+//! Every check of sizes, lengths, settings and readings is the proved library's own; this crate asks
+//! it and does no arithmetic. The library has no heap, no global state and no locks, so tables may be
+//! split on several threads at once. It takes the thread's floating point to be as Rust has it: round
+//! to nearest, subnormal numbers kept.
+#![deny(missing_docs, unsafe_code)]
+
+mod outcome;
+#[allow(unsafe_code)]
 pub mod raw;
+mod settings;
+mod table;
+
+pub use outcome::{Refusal, Report};
+pub use settings::Settings;
+pub use table::{Factors, Table};
+
+/// The most stations and the most passes that a table may have.
+pub const MOST: usize = 48;
+
+/// The double nearest to the root of `x`. -0, +0 and infinity stay; below zero and NaN give NaN.
+///
+/// ```
+/// assert_eq!(merotunki::square_root(2.0).to_bits(), 0x3FF6_A09E_667F_3BCD);
+/// assert!(merotunki::square_root(-1.0).is_nan());
+/// ```
+pub fn square_root(x: f64) -> f64 {
+    raw::square_root(x)
+}

@@ -1,8 +1,11 @@
-//! The library's own functions, as merotunki.h declares them. A slice is a pointer and a length; an
-//! answer is written where the first argument points, and that pointer is handed back.
+//! The library's own functions, as merotunki.h declares them, and a safe call of each for the rest of
+//! this crate. All of the crate's unsafe code stands here. An app needs nothing of this module; it is
+//! public for programs that compare the library's own calls with others.
 
+/// What a call answers: `merotunki_answer`.
 #[repr(C)]
 #[derive(Clone, Copy, Debug, Default, PartialEq, Eq)]
+#[allow(missing_docs)]
 pub struct Answer {
     pub number: u64,
     pub place: u64,
@@ -13,8 +16,19 @@ pub struct Answer {
     pub range: u64,
 }
 
+/// Where a row lies: `merotunki_part`.
+#[repr(C)]
+#[derive(Clone, Copy, Debug, Default, PartialEq, Eq)]
+#[allow(missing_docs)]
+pub struct Part {
+    pub start: u64,
+    pub length: u64,
+}
+
+/// The settings: `merotunki_choice`.
 #[repr(C)]
 #[derive(Clone, Copy, Debug, Default, PartialEq)]
+#[allow(missing_docs)]
 pub struct Choice {
     pub limit: u64,
     pub credit: u64,
@@ -23,6 +37,13 @@ pub struct Choice {
     pub floor: f64,
 }
 
+const _: () =
+    assert!(size_of::<Answer>() == 56 && size_of::<Part>() == 16 && size_of::<Choice>() == 40);
+const _: () = assert!(size_of::<usize>() == 8, "the library is for 64-bit machines");
+
+// A slice is a pointer and a length, one after the other. An answer is written where the first argument
+// points, and that pointer is handed back; a part comes back by value.
+#[allow(missing_docs)]
 unsafe extern "C" {
     pub fn merotunki_svd(
         answer: *mut Answer,
@@ -54,7 +75,106 @@ unsafe extern "C" {
         floor: f64,
     ) -> *mut Answer;
 
+    pub fn merotunki_identity(a: *mut f64, a_length: usize, n: usize) -> u64;
+
+    pub fn merotunki_row(
+        u: *const f64,
+        u_length: usize,
+        v: *const f64,
+        v_length: usize,
+        rows: usize,
+        columns: usize,
+        side: usize,
+        row: usize,
+    ) -> Part;
+
     pub fn merotunki_square_root(x: f64) -> f64;
 
     pub fn merotunki_defaults(choice: *mut Choice) -> *mut Choice;
+}
+
+// The library asks for good pointers that do not overlap and checks all else itself. Rust's slices are
+// good for their lengths, and two that are borrowed at once, one of them mutably, never overlap.
+
+pub(crate) fn svd(m: &mut [f64], rows: usize, columns: usize, c: Choice) -> Answer {
+    let mut a = Answer::default();
+    let (limit, credit) = (c.limit as usize, c.credit as usize);
+    // SAFETY: as above.
+    unsafe {
+        merotunki_svd(
+            &mut a,
+            m.as_mut_ptr(),
+            m.len(),
+            rows,
+            columns,
+            limit,
+            credit,
+            c.tolerance,
+            c.absolute,
+            c.floor,
+        )
+    };
+    a
+}
+
+pub(crate) fn full_svd(
+    m: &mut [f64],
+    (u, v): (&mut [f64], &mut [f64]),
+    rows: usize,
+    columns: usize,
+    c: Choice,
+) -> Answer {
+    let mut a = Answer::default();
+    let (limit, credit) = (c.limit as usize, c.credit as usize);
+    let (m, m_length, u, u_length, v, v_length) =
+        (m.as_mut_ptr(), m.len(), u.as_mut_ptr(), u.len(), v.as_mut_ptr(), v.len());
+    // SAFETY: as above.
+    unsafe {
+        merotunki_full_svd(
+            &mut a,
+            m,
+            m_length,
+            u,
+            u_length,
+            v,
+            v_length,
+            rows,
+            columns,
+            limit,
+            credit,
+            c.tolerance,
+            c.absolute,
+            c.floor,
+        )
+    };
+    a
+}
+
+pub(crate) fn identity(a: &mut [f64], n: usize) -> u64 {
+    // SAFETY: as above.
+    unsafe { merotunki_identity(a.as_mut_ptr(), a.len(), n) }
+}
+
+pub(crate) fn row(
+    u: &[f64],
+    v: &[f64],
+    rows: usize,
+    columns: usize,
+    side: usize,
+    row: usize,
+) -> Part {
+    // SAFETY: as above; U and V are not even read.
+    unsafe { merotunki_row(u.as_ptr(), u.len(), v.as_ptr(), v.len(), rows, columns, side, row) }
+}
+
+pub(crate) fn square_root(x: f64) -> f64 {
+    // SAFETY: a number in, a number out.
+    unsafe { merotunki_square_root(x) }
+}
+
+pub(crate) fn defaults() -> Choice {
+    let mut c = Choice::default();
+    // SAFETY: as above.
+    unsafe { merotunki_defaults(&mut c) };
+    c
 }

@@ -22,6 +22,8 @@ struct Counts {
     tables: [[u64; 4]; TABLES.len()],
     shapes: Vec<u64>,
     greater: u64,
+    /// Stopped with as many passes as the bound allows.
+    reached: u64,
     nan: u64,
     infinite: u64,
     passes: u64,
@@ -39,6 +41,7 @@ impl Counts {
             tables: [[0; 4]; TABLES.len()],
             shapes: vec![0; 48 * 48],
             greater: 0,
+            reached: 0,
             nan: 0,
             infinite: 0,
             passes: 0,
@@ -59,6 +62,7 @@ impl Counts {
             self.shapes[(rows - 1) * 48 + cols - 1] += 1;
         }
         self.greater += u64::from(seen.greater);
+        self.reached += u64::from(seen.reached);
         self.nan += u64::from(seen.nan && number == 0);
         self.infinite += u64::from(seen.infinite && number == 0);
         self.tables[table][3] += u64::from((seen.nan || seen.infinite) && number == 0);
@@ -78,6 +82,7 @@ impl Counts {
             add(to, from);
         }
         self.greater += other.greater;
+        self.reached += other.reached;
         self.nan += other.nan;
         self.infinite += other.infinite;
         self.passes += other.passes;
@@ -106,6 +111,10 @@ impl Counts {
             self.nan, self.infinite
         );
         println!("settled and run again at a greater limit {}", self.greater);
+        println!(
+            "runs with drops, and as many passes as the bound allows {}",
+            self.reached
+        );
         let shapes = self.shapes.iter().filter(|&&runs| runs > 0).count();
         let least = self.shapes.iter().min().unwrap_or(&0);
         println!("shapes accepted {shapes} of 2304, each at least {least} times");

@@ -10,22 +10,30 @@ use Rattle.factors.proofs.identity.identity_flat.Statement.{statement}
 use Rattle.factors.proofs.identity.identity_flat.Tie as tie
 
 returns : tie.Need-returns
-returns c = fill-with (c .before .before .args .n) 1 (c .before .before .args .a .now) (omega arith) (fill-numbers (c .before .before .args .n) (c .before .before .args .a .now) .one .1 (c .if1 .taken))
+returns c =
+    let st = c .before .before in
+    fill-with (st .args .n) 1 (st .args .a .now) (omega arith) (fill-numbers (st .args .n) (st .args .a .now) .one .1 (c .if1 .taken))
 
 returns-2 : tie.Need-returns-2
-returns-2 c = fill-with (c .before .before .before .args .n) 2 (c .before .before .before .args .a .now) (omega arith) (fill-numbers (c .before .before .before .args .n) (c .before .before .before .args .a .now) .two .1 (c .if2 .taken))
+returns-2 c =
+    let st = c .before .before .before in
+    fill-with (st .args .n) 2 (st .args .a .now) (omega arith) (fill-numbers (st .args .n) (st .args .a .now) .two .1 (c .if2 .taken))
 
 mul-if3 : tie.Need-mul-if3
-mul-if3 c = record { fits = omega (arith, few (c .before .before .before .args .n) (c .before .before .before .args .n) (omega arith) (omega arith)) }
+mul-if3 c = let st = c .before .before .before in record { fits = omega (arith, few (st .args .n) (st .args .n) (omega arith) (omega arith)) }
 
 returns-3 : tie.Need-returns-3
-returns-3 c = fill-with (c .before .before .before .before .args .n) 4 (c .before .before .before .before .args .a .now) (omega arith) (fill-numbers (c .before .before .before .before .args .n) (c .before .before .before .before .args .a .now) .four .1 (omega arith, omega arith, c .if3 .taken))
+returns-3 c =
+    let st = c .before .before .before .before in
+    fill-with (st .args .n) 4 (st .args .a .now) (omega arith) (fill-numbers (st .args .n) (st .args .a .now) .four .1 (omega arith, omega arith, c .if3 .taken))
 
 ones-requires : tie.Need-ones-requires
 ones-requires c κs = (omega arith, c .before .before .before .zeros .ensures)
 
 returns-4 : tie.Need-returns-4
-returns-4 c = fill-done (c .before .before .before .before .before .before .before .before .before .before .before .before .args .n) (c .before .before .before .before .before .before .before .before .before .before .before .before .args .a .now) _ record { some = omega arith; few = omega arith; whole = c .before .before .before .before .before .before .before .before .if3 .left } (c .before .before .ones .ensures)
+returns-4 c =
+    let st = c .before .before .before .before .before .before .before .before .before .before .before .before in
+    fill-done (st .args .n) (st .args .a .now) _ record { some = omega arith; few = omega arith; whole = c .before .before .before .before .before .before .before .before .if3 .left } (c .before .before .ones .ensures)
 
 pub identity-flat-spec : {M : Type 1} → statement M
 identity-flat-spec = tie.close (tie.spec returns returns-2 mul-if3 returns-3 (λ c. search needs) (λ c κs. search needs) ones-requires (λ c. search needs) returns-4)

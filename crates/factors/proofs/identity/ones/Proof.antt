@@ -22,16 +22,24 @@ loop-holds : tie.Need-loop-holds Inv-loop μ-loop
 loop-holds c = (omega arith, refl, turns-none 0 _ _)
 
 mul-at : tie.Need-mul-at Inv-loop μ-loop
-mul-at c = record { fits = omega (arith, row-in (c .before .loop .i) (c .before .before .args .n) (c .before .before .args .n) (omega arith), few (c .before .before .args .n) (c .before .before .args .n) (omega arith) (omega arith)) }
+mul-at c =
+    let st = c .before .before in
+    record { fits = omega (arith, row-in (c .before .loop .i) (st .args .n) (st .args .n) (omega arith), few (st .args .n) (st .args .n) (omega arith) (omega arith)) }
 
 add-at : tie.Need-add-at Inv-loop μ-loop
-add-at c = omega (arith, row-in (c .before .loop .i) (c .before .before .args .n) (c .before .before .args .n) (omega arith), few (c .before .before .args .n) (c .before .before .args .n) (omega arith) (omega arith))
+add-at c =
+    let st = c .before .before in
+    omega (arith, row-in (c .before .loop .i) (st .args .n) (st .args .n) (omega arith), few (st .args .n) (st .args .n) (omega arith) (omega arith))
 
 mul-a : tie.Need-mul-a Inv-loop μ-loop
-mul-a c = omega (arith, row-in (c .before .loop .i) (c .before .before .args .n) (c .before .before .args .n) (omega arith), few (c .before .before .args .n) (c .before .before .args .n) (omega arith) (omega arith))
+mul-a c =
+    let st = c .before .before in
+    omega (arith, row-in (c .before .loop .i) (st .args .n) (st .args .n) (omega arith), few (st .args .n) (st .args .n) (omega arith) (omega arith))
 
 slice-write-a : tie.Need-slice-write-a Inv-loop μ-loop
-slice-write-a c = omega (arith, row-in (c .before .loop .i) (c .before .before .args .n) (c .before .before .args .n) (omega arith), few (c .before .before .args .n) (c .before .before .args .n) (omega arith) (omega arith), ap length (c .before .before .pre .1) ∙ length-replicate (c .before .before .args .n * c .before .before .args .n) plusZero)
+slice-write-a c =
+    let st = c .before .before in
+    omega (arith, row-in (c .before .loop .i) (st .args .n) (st .args .n) (omega arith), few (st .args .n) (st .args .n) (omega arith) (omega arith), ap length (st .pre .1) ∙ length-replicate (st .args .n * st .args .n) plusZero)
 
 loop-again : tie.Need-loop-again Inv-loop μ-loop
 loop-again c = (omega arith, simp length-set (omega arith), rw (turns-next, one-64) (cc))

@@ -24,7 +24,9 @@ loop-again : tie.Need-loop-again Inv-loop μ-loop
 loop-again c = (omega arith, simp length-set (omega arith), rw plusZero-64 (zeros-more (c .before .loop .k) (c .before .loop .a) (c .before .before .args .a .now) (omega arith) (c .before .loop .inv .2)))
 
 returns : tie.Need-returns Inv-loop μ-loop
-returns c = zeros-all (c .before .before .args .n) (c .before .loop .k) (c .before .loop .a) (c .before .before .args .a .now) (c .before .before .pre) (le-antisymm (c .before .loop .inv .0) (c .loop-test .left)) (c .before .loop .inv .2)
+returns c =
+    let st = c .before .before in
+    zeros-all (st .args .n) (c .before .loop .k) (c .before .loop .a) (st .args .a .now) (st .pre) (le-antisymm (c .before .loop .inv .0) (c .loop-test .left)) (c .before .loop .inv .2)
 
 pub zeros-spec : {M : Type 1} → statement M
 zeros-spec = tie.close (tie.spec Inv-loop μ-loop loop-holds (λ c. search needs) (λ c. search needs) (λ c. search needs) (λ c. search needs) loop-again (λ c. search needs) returns)

@@ -23,19 +23,19 @@ unfolding columnCleared
 loop-holds c = (omega arith, refl, turns-none 0 _ _)
 
 add-at : tie.Need-add-at Inv-loop μ-loop
-add-at c = omega (arith, row-fits (c .before .before .args .i) (c .before .before .args .stride) (c .loop-test .taken))
+add-at c = let st = c .before .before in omega (arith, row-fits (st .args .i) (st .args .stride) (c .loop-test .taken))
 
 mul-at : tie.Need-mul-at Inv-loop μ-loop
-mul-at c = record { fits = omega (arith, row-fits (c .before .before .args .i) (c .before .before .args .stride) (c .loop-test .taken)) }
+mul-at c = let st = c .before .before in record { fits = omega (arith, row-fits (st .args .i) (st .args .stride) (c .loop-test .taken)) }
 
 add-at-2 : tie.Need-add-at-2 Inv-loop μ-loop
-add-at-2 c = omega (arith, row-fits (c .before .before .args .i) (c .before .before .args .stride) (c .loop-test .taken))
+add-at-2 c = let st = c .before .before in omega (arith, row-fits (st .args .i) (st .args .stride) (c .loop-test .taken))
 
 mul-b : tie.Need-mul-b Inv-loop μ-loop
-mul-b c = omega (arith, row-fits (c .before .before .args .i) (c .before .before .args .stride) (c .loop-test .taken))
+mul-b c = let st = c .before .before in omega (arith, row-fits (st .args .i) (st .args .stride) (c .loop-test .taken))
 
 slice-write-b : tie.Need-slice-write-b Inv-loop μ-loop
-slice-write-b c = omega (arith, row-fits (c .before .before .args .i) (c .before .before .args .stride) (c .loop-test .taken))
+slice-write-b c = let st = c .before .before in omega (arith, row-fits (st .args .i) (st .args .stride) (c .loop-test .taken))
 
 loop-again : tie.Need-loop-again Inv-loop μ-loop
 unfolding columnCleared

@@ -22,19 +22,19 @@ unfolding columnCopied
 loop-holds c = (omega arith, ap length (c .pre .3), c .pre .3 ∙ turns-none 0 _ _)
 
 add-at : tie.Need-add-at Inv-loop μ-loop
-add-at c = omega (arith, row-fits (c .before .before .args .i) (c .before .before .args .stride) (c .loop-test .taken))
+add-at c = let st = c .before .before in omega (arith, row-fits (st .args .i) (st .args .stride) (c .loop-test .taken))
 
 mul-at : tie.Need-mul-at Inv-loop μ-loop
-mul-at c = record { fits = omega (arith, row-fits (c .before .before .args .i) (c .before .before .args .stride) (c .loop-test .taken)) }
+mul-at c = let st = c .before .before in record { fits = omega (arith, row-fits (st .args .i) (st .args .stride) (c .loop-test .taken)) }
 
 add-at-2 : tie.Need-add-at-2 Inv-loop μ-loop
-add-at-2 c = omega (arith, row-fits (c .before .before .args .i) (c .before .before .args .stride) (c .loop-test .taken))
+add-at-2 c = let st = c .before .before in omega (arith, row-fits (st .args .i) (st .args .stride) (c .loop-test .taken))
 
 mul-w : tie.Need-mul-w Inv-loop μ-loop
-mul-w c = omega (arith, row-fits (c .before .before .args .i) (c .before .before .args .stride) (c .loop-test .taken))
+mul-w c = let st = c .before .before in omega (arith, row-fits (st .args .i) (st .args .stride) (c .loop-test .taken))
 
 shared-slice-read-w : tie.Need-shared-slice-read-w Inv-loop μ-loop
-shared-slice-read-w c = omega (arith, row-fits (c .before .before .before .args .i) (c .before .before .before .args .stride) (c .before .loop-test .taken))
+shared-slice-read-w c = let st = c .before .before .before in omega (arith, row-fits (st .args .i) (st .args .stride) (c .before .loop-test .taken))
 
 loop-again : tie.Need-loop-again Inv-loop μ-loop
 unfolding columnCopied

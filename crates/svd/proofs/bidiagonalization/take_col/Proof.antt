@@ -10,10 +10,14 @@ use Rattle.svd.proofs.bidiagonalization.take_col.Statement.{statement}
 use Rattle.svd.proofs.bidiagonalization.take_col.Tie as tie
 
 copy-col-requires : tie.Need-copy-col-requires
-copy-col-requires c κs = rw plusZero-64 (omega arith, omega arith, omega (arith, rows-left (c .before .before .before .before .args .i) (c .before .before .before .before .args .rows) (c .before .before .before .before .args .stride) (omega arith)), refl)
+copy-col-requires c κs =
+    let st = c .before .before .before .before in
+    rw plusZero-64 (omega arith, omega arith, omega (arith, rows-left (st .args .i) (st .args .rows) (st .args .stride) (omega arith)), refl)
 
 clear-col-requires : tie.Need-clear-col-requires
-clear-col-requires c κs = (omega arith, omega arith, omega (arith, rows-left (c .before .before .before .before .before .before .before .args .i) (c .before .before .before .before .before .before .before .args .rows) (c .before .before .before .before .before .before .before .args .stride) (omega arith)))
+clear-col-requires c κs =
+    let st = c .before .before .before .before .before .before .before in
+    (omega arith, omega arith, omega (arith, rows-left (st .args .i) (st .args .rows) (st .args .stride) (omega arith)))
 
 params-requires : tie.Need-params-requires
 params-requires c κs = (omega arith, omega arith, omega arith, c .before .before .before .before .before .before .before .before .before .before .before .before .pre .4)

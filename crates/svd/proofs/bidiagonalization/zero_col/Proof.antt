@@ -17,7 +17,9 @@ returns : tie.Need-returns
 returns c = (c .before .before .before .before .take-col .ensures .table ∙ column-still _ _ _ _ _ _ _ _ _ (c .before .before .before .before .take-col .ensures .made) (rw plusZero-64 at (c .if1 .taken)), factor-still _ _ _ _ _ _ _ (c .before .before .before .before .take-col .ensures .made) (rw plusZero-64 at (c .if1 .taken)))
 
 lapply-householder-requires : tie.Need-lapply-householder-requires
-lapply-householder-requires c κs = (omega arith, omega arith, omega arith, omega arith, omega arith, omega (arith, rows-left (c .before .before .before .before .before .before .before .before .before .before .before .before .before .args .i) (c .before .before .before .before .before .before .before .before .before .before .before .before .before .args .z .rows) (c .before .before .before .before .before .before .before .before .before .before .before .before .before .args .z .stride) (omega arith)))
+lapply-householder-requires c κs =
+    let st = c .before .before .before .before .before .before .before .before .before .before .before .before .before in
+    (omega arith, omega arith, omega arith, omega arith, omega arith, omega (arith, rows-left (st .args .i) (st .args .z .rows) (st .args .z .stride) (omega arith)))
 
 rapply-householder-requires : tie.Need-rapply-householder-requires
 rapply-householder-requires c κs = (omega arith, omega arith, omega arith, omega arith, omega arith)

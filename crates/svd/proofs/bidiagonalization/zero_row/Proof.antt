@@ -23,7 +23,9 @@ returns : tie.Need-returns
 returns c = (row-still _ _ _ _ _ _ _ _ _ (c .before .before .before .before .params .ensures) (rw plusZero-64 at (c .if1 .taken)), factor-still _ _ _ _ _ _ _ (c .before .before .before .before .params .ensures) (rw plusZero-64 at (c .if1 .taken)))
 
 rapply-householder-requires : tie.Need-rapply-householder-requires
-rapply-householder-requires c κs = (omega arith, omega arith, omega arith, omega arith, omega (arith, rows-left (c .before .before .before .before .before .before .before .before .before .before .before .before .before .args .i + 1) (c .before .before .before .before .before .before .before .before .before .before .before .before .before .args .z .rows) (c .before .before .before .before .before .before .before .before .before .before .before .before .before .args .z .stride) (omega arith)))
+rapply-householder-requires c κs =
+    let st = c .before .before .before .before .before .before .before .before .before .before .before .before .before in
+    (omega arith, omega arith, omega arith, omega arith, omega (arith, rows-left (st .args .i + 1) (st .args .z .rows) (st .args .z .stride) (omega arith)))
 
 returns-2 : tie.Need-returns-2
 returns-2 c = (c .before .before .before .before .before .before .before .rapply-householder .ensures ∙ row-moved _ _ _ _ _ _ _ _ _ (c .before .before .before .before .before .before .before .before .before .before .before .before .before .before .before .params .ensures) (rw plusZero-64 at (c .before .before .before .before .before .before .before .before .before .before .before .if1 .left)), c .before .before .rapply-householder2 .ensures ∙ factor-moved _ _ _ _ _ _ _ (c .before .before .before .before .before .before .before .before .before .before .before .before .before .before .before .params .ensures) (rw plusZero-64 at (c .before .before .before .before .before .before .before .before .before .before .before .if1 .left)))

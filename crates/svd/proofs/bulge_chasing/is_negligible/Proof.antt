@@ -9,13 +9,19 @@ use Rattle.svd.proofs.bulge_chasing.is_negligible.Statement.{statement}
 use Rattle.svd.proofs.bulge_chasing.is_negligible.Tie as tie
 
 mul-magnitude-3 : tie.Need-mul-magnitude-3
-mul-magnitude-3 c = omega (arith, c .before .before .before .before .before .pre .4, coupling-inside (c .before .before .before .before .before .args .upper) (c .before .before .before .before .before .args .stride) (c .before .before .before .before .before .args .k) (c .before .before .before .before .before .pre .0))
+mul-magnitude-3 c =
+    let st = c .before .before .before .before .before in
+    omega (arith, st .pre .4, coupling-inside (st .args .upper) (st .args .stride) (st .args .k) (st .pre .0))
 
 shared-slice-read-magnitude-3 : tie.Need-shared-slice-read-magnitude-3
-shared-slice-read-magnitude-3 c = omega (arith, c .before .before .before .before .before .before .pre .4, coupling-inside (c .before .before .before .before .before .before .args .upper) (c .before .before .before .before .before .before .args .stride) (c .before .before .before .before .before .before .args .k) (c .before .before .before .before .before .before .pre .0))
+shared-slice-read-magnitude-3 c =
+    let st = c .before .before .before .before .before .before in
+    omega (arith, st .pre .4, coupling-inside (st .args .upper) (st .args .stride) (st .args .k) (st .pre .0))
 
 returns : tie.Need-returns
-returns c = negligible-is binary64 (c .before .before .before .before .before .before .before .before .before .args .stride) (c .before .before .before .before .before .before .before .before .before .args .upper) (c .before .before .before .before .before .before .before .before .before .args .k) _ (c .before .before .before .before .before .before .before .before .before .args .tl) (c .before .before .before .before .before .before .before .before .before .args .bl) (c .before .before .before .before .before .before .before .before .before .args .bl + 1) _ _ (c .before .before .before .before .before .before .before .before .before .args .e1) _ _ _ _ (c .before .before .before .before .before .before .before .before .before .pre .4) (c .before .before .before .before .before .before .before .before .before .pre .5) (omega (arith, c .before .before .before .before .before .before .before .before .before .pre .6)) (c .before .before .before .before .before .before .magnitude .ensures) (c .before .before .before .before .magnitude2 .ensures) (c .before .before .magnitude3 .ensures) (c .smaller .ensures)
+returns c =
+    let st = c .before .before .before .before .before .before .before .before .before in
+    negligible-is binary64 (st .args .stride) (st .args .upper) (st .args .k) _ (st .args .tl) (st .args .bl) (st .args .bl + 1) _ _ (st .args .e1) _ _ _ _ (st .pre .4) (st .pre .5) (omega (arith, st .pre .6)) (c .before .before .before .before .before .before .magnitude .ensures) (c .before .before .before .before .magnitude2 .ensures) (c .before .before .magnitude3 .ensures) (c .smaller .ensures)
 
 pub is-negligible-spec : {M : Type 1} → statement M
 is-negligible-spec = tie.close (tie.spec (λ c. search needs) (λ c. search needs) (λ c. search needs) (λ c κs. search needs) (λ c. search needs) (λ c. search needs) (λ c κs. search needs) mul-magnitude-3 shared-slice-read-magnitude-3 (λ c κs. search needs) (λ c κs. search needs) returns)

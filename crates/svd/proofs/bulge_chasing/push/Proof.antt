@@ -8,10 +8,14 @@ use Rattle.svd.proofs.bulge_chasing.push.Statement.{statement}
 use Rattle.svd.proofs.bulge_chasing.push.Tie as tie
 
 along-requires : tie.Need-along-requires
-along-requires c κs = (omega (arith, row-in (c .before .before .before .before .args .i) (c .before .before .before .before .args .z .rows) (c .before .before .before .before .args .z .stride) (omega arith)), omega (arith, row-in (c .before .before .before .before .args .j) (c .before .before .before .before .args .z .rows) (c .before .before .before .before .args .z .stride) (omega arith)))
+along-requires c κs =
+    let st = c .before .before .before .before in
+    (omega (arith, row-in (st .args .i) (st .args .z .rows) (st .args .z .stride) (omega arith)), omega (arith, row-in (st .args .j) (st .args .z .rows) (st .args .z .stride) (omega arith)))
 
 along-requires-2 : tie.Need-along-requires-2
-along-requires-2 c κs = (omega (arith, row-in (c .before .before .before .before .before .before .args .i + 1) (c .before .before .before .before .before .before .args .z .rows) (c .before .before .before .before .before .before .args .z .stride) (omega arith)), omega (arith, row-in (c .before .before .before .before .before .before .args .j) (c .before .before .before .before .before .before .args .z .rows) (c .before .before .before .before .before .before .args .z .stride) (omega arith)))
+along-requires-2 c κs =
+    let st = c .before .before .before .before .before .before in
+    (omega (arith, row-in (st .args .i + 1) (st .args .z .rows) (st .args .z .stride) (omega arith)), omega (arith, row-in (st .args .j) (st .args .z .rows) (st .args .z .stride) (omega arith)))
 
 returns : tie.Need-returns
 returns c = rw (c .before .before .before .before .before .before .turn .ensures, c .before .before .before .before .before .before .before .before .before .before .implicit-givens-rotation .ensures, c .before .before .before .before .before .before .before .before .before .before .before .before .before .along .ensures, c .before .before .before .before .before .before .before .before .before .before .before .along2 .ensures) refl

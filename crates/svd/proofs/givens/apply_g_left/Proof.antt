@@ -33,19 +33,29 @@ unfolding rowsTurned
 loop-holds c = (omega arith, refl, turns-none 0 _ _)
 
 add-turn-pair : tie.Need-add-turn-pair Inv-loop μ-loop
-add-turn-pair c = omega (arith, row-next (c .before .before .before .before .args .i) (c .before .before .before .before .args .stride), row-next (c .before .before .before .before .args .i + 1) (c .before .before .before .before .args .stride))
+add-turn-pair c =
+    let st = c .before .before .before .before in
+    omega (arith, row-next (st .args .i) (st .args .stride), row-next (st .args .i + 1) (st .args .stride))
 
 add-turn-pair-2 : tie.Need-add-turn-pair-2 Inv-loop μ-loop
-add-turn-pair-2 c = omega (arith, row-next (c .before .before .before .before .args .i) (c .before .before .before .before .args .stride), row-next (c .before .before .before .before .args .i + 1) (c .before .before .before .before .args .stride))
+add-turn-pair-2 c =
+    let st = c .before .before .before .before in
+    omega (arith, row-next (st .args .i) (st .args .stride), row-next (st .args .i + 1) (st .args .stride))
 
 add-turn-pair-3 : tie.Need-add-turn-pair-3 Inv-loop μ-loop
-add-turn-pair-3 c = omega (arith, row-next (c .before .before .before .before .args .i) (c .before .before .before .before .args .stride), row-next (c .before .before .before .before .args .i + 1) (c .before .before .before .before .args .stride))
+add-turn-pair-3 c =
+    let st = c .before .before .before .before in
+    omega (arith, row-next (st .args .i) (st .args .stride), row-next (st .args .i + 1) (st .args .stride))
 
 add-turn-pair-4 : tie.Need-add-turn-pair-4 Inv-loop μ-loop
-add-turn-pair-4 c = omega (arith, row-next (c .before .before .before .before .args .i) (c .before .before .before .before .args .stride), row-next (c .before .before .before .before .args .i + 1) (c .before .before .before .before .args .stride))
+add-turn-pair-4 c =
+    let st = c .before .before .before .before in
+    omega (arith, row-next (st .args .i) (st .args .stride), row-next (st .args .i + 1) (st .args .stride))
 
 turn-pair-requires : tie.Need-turn-pair-requires Inv-loop μ-loop
-turn-pair-requires c κs = (omega (arith, row-next (c .before .before .before .before .args .i) (c .before .before .before .before .args .stride), row-next (c .before .before .before .before .args .i + 1) (c .before .before .before .before .args .stride)), omega (arith, row-next (c .before .before .before .before .args .i) (c .before .before .before .before .args .stride), row-next (c .before .before .before .before .args .i + 1) (c .before .before .before .before .args .stride)))
+turn-pair-requires c κs =
+    let st = c .before .before .before .before in
+    (omega (arith, row-next (st .args .i) (st .args .stride), row-next (st .args .i + 1) (st .args .stride)), omega (arith, row-next (st .args .i) (st .args .stride), row-next (st .args .i + 1) (st .args .stride)))
 
 loop-again : tie.Need-loop-again Inv-loop μ-loop
 unfolding rowsTurned

@@ -23,16 +23,20 @@ unfolding reflectedRight
 loop-holds c = (omega arith, refl, turns-none 0 _ _)
 
 add-off : tie.Need-add-off Inv-loop μ-loop
-add-off c = omega (arith, row-fits (c .before .before .before .before .args .i) (c .before .before .before .before .args .stride) (c .loop-test .taken))
+add-off c = let st = c .before .before .before .before in omega (arith, row-fits (st .args .i) (st .args .stride) (c .loop-test .taken))
 
 mul-off : tie.Need-mul-off Inv-loop μ-loop
-mul-off c = record { fits = omega (arith, row-fits (c .before .before .before .before .args .i) (c .before .before .before .before .args .stride) (c .loop-test .taken)) }
+mul-off c =
+    let st = c .before .before .before .before in
+    record { fits = omega (arith, row-fits (st .args .i) (st .args .stride) (c .loop-test .taken)) }
 
 add-off-2 : tie.Need-add-off-2 Inv-loop μ-loop
-add-off-2 c = omega (arith, row-fits (c .before .before .before .before .args .i) (c .before .before .before .before .args .stride) (c .loop-test .taken))
+add-off-2 c = let st = c .before .before .before .before in omega (arith, row-fits (st .args .i) (st .args .stride) (c .loop-test .taken))
 
 reflect-row-requires : tie.Need-reflect-row-requires Inv-loop μ-loop
-reflect-row-requires c κs = (omega arith, omega arith, omega (arith, row-fits (c .before .before .before .before .before .args .i) (c .before .before .before .before .before .args .stride) (c .before .loop-test .taken)))
+reflect-row-requires c κs =
+    let st = c .before .before .before .before .before in
+    (omega arith, omega arith, omega (arith, row-fits (st .args .i) (st .args .stride) (c .before .loop-test .taken)))
 
 loop-again : tie.Need-loop-again Inv-loop μ-loop
 unfolding reflectedRight

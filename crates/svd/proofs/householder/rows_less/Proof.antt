@@ -19,29 +19,41 @@ abbrev μ-loop : tie.MeasureT-loop
 μ-loop a₀ p w stride i j rows cols k₀ a k = rows - k
 
 mul-row-less-all : tie.Need-mul-row-less-all Inv-loop μ-loop
-mul-row-less-all c = record { fits = omega (arith, row-fits (c .before .before .before .before .args .i) (c .before .before .before .before .args .stride) (c .before .before .before .before .pre .0)) }
+mul-row-less-all c =
+    let st = c .before .before .before .before in
+    record { fits = omega (arith, row-fits (st .args .i) (st .args .stride) (st .pre .0)) }
 
 add-row-less-all : tie.Need-add-row-less-all Inv-loop μ-loop
-add-row-less-all c = omega (arith, row-fits (c .before .before .before .before .args .i) (c .before .before .before .before .args .stride) (c .before .before .before .before .pre .0))
+add-row-less-all c = let st = c .before .before .before .before in omega (arith, row-fits (st .args .i) (st .args .stride) (st .pre .0))
 
 row-less-all-requires : tie.Need-row-less-all-requires Inv-loop μ-loop
-row-less-all-requires c κs = (omega (arith, row-fits (c .before .before .before .before .args .i) (c .before .before .before .before .args .stride) (c .before .before .before .before .pre .0)), omega arith)
+row-less-all-requires c κs =
+    let st = c .before .before .before .before in
+    (omega (arith, row-fits (st .args .i) (st .args .stride) (st .pre .0)), omega arith)
 
 loop-holds : tie.Need-loop-holds Inv-loop μ-loop
 unfolding lowerLess
 loop-holds c = (omega arith, omega arith, refl, turns-none 1 _ _)
 
 add-off : tie.Need-add-off Inv-loop μ-loop
-add-off c = omega (arith, row-fits (c .before .before .before .before .before .before .before .before .before .args .i) (c .before .before .before .before .before .before .before .before .before .args .stride) (c .loop-test .taken))
+add-off c =
+    let st = c .before .before .before .before .before .before .before .before .before in
+    omega (arith, row-fits (st .args .i) (st .args .stride) (c .loop-test .taken))
 
 mul-off : tie.Need-mul-off Inv-loop μ-loop
-mul-off c = record { fits = omega (arith, row-fits (c .before .before .before .before .before .before .before .before .before .args .i) (c .before .before .before .before .before .before .before .before .before .args .stride) (c .loop-test .taken)) }
+mul-off c =
+    let st = c .before .before .before .before .before .before .before .before .before in
+    record { fits = omega (arith, row-fits (st .args .i) (st .args .stride) (c .loop-test .taken)) }
 
 add-off-2 : tie.Need-add-off-2 Inv-loop μ-loop
-add-off-2 c = omega (arith, row-fits (c .before .before .before .before .before .before .before .before .before .args .i) (c .before .before .before .before .before .before .before .before .before .args .stride) (c .loop-test .taken))
+add-off-2 c =
+    let st = c .before .before .before .before .before .before .before .before .before in
+    omega (arith, row-fits (st .args .i) (st .args .stride) (c .loop-test .taken))
 
 row-less-times-requires : tie.Need-row-less-times-requires Inv-loop μ-loop
-row-less-times-requires c κs = (omega (arith, row-fits (c .before .before .before .before .before .before .before .before .before .before .before .args .i) (c .before .before .before .before .before .before .before .before .before .before .before .args .stride) (c .before .before .loop-test .taken)), omega arith)
+row-less-times-requires c κs =
+    let st = c .before .before .before .before .before .before .before .before .before .before .before in
+    (omega (arith, row-fits (st .args .i) (st .args .stride) (c .before .before .loop-test .taken)), omega arith)
 
 loop-again : tie.Need-loop-again Inv-loop μ-loop
 unfolding lowerLess

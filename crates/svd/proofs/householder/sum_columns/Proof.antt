@@ -19,29 +19,39 @@ abbrev μ-loop : tie.MeasureT-loop
 μ-loop a p w₀ stride i j rows cols k₀ w k = rows - k
 
 mul-copy-row : tie.Need-mul-copy-row Inv-loop μ-loop
-mul-copy-row c = record { fits = omega (arith, row-fits (c .before .before .before .before .args .i) (c .before .before .before .before .args .stride) (c .before .before .before .before .pre .0)) }
+mul-copy-row c = let st = c .before .before .before .before in record { fits = omega (arith, row-fits (st .args .i) (st .args .stride) (st .pre .0)) }
 
 add-copy-row : tie.Need-add-copy-row Inv-loop μ-loop
-add-copy-row c = omega (arith, row-fits (c .before .before .before .before .args .i) (c .before .before .before .before .args .stride) (c .before .before .before .before .pre .0))
+add-copy-row c = let st = c .before .before .before .before in omega (arith, row-fits (st .args .i) (st .args .stride) (st .pre .0))
 
 copy-row-requires : tie.Need-copy-row-requires Inv-loop μ-loop
-copy-row-requires c κs = (omega (arith, row-fits (c .before .before .before .before .args .i) (c .before .before .before .before .args .stride) (c .before .before .before .before .pre .0)), omega arith, c .before .before .before .before .pre .6)
+copy-row-requires c κs =
+    let st = c .before .before .before .before in
+    (omega (arith, row-fits (st .args .i) (st .args .stride) (st .pre .0)), omega arith, st .pre .6)
 
 loop-holds : tie.Need-loop-holds Inv-loop μ-loop
 unfolding rowsAdded
 loop-holds c = (omega arith, omega arith, omega (arith, blank-length _ (c .before .before .before .before .before .before .before .pre .6)), turns-none 1 _ _)
 
 add-off : tie.Need-add-off Inv-loop μ-loop
-add-off c = omega (arith, row-fits (c .before .before .before .before .before .before .before .before .before .args .i) (c .before .before .before .before .before .before .before .before .before .args .stride) (c .loop-test .taken))
+add-off c =
+    let st = c .before .before .before .before .before .before .before .before .before in
+    omega (arith, row-fits (st .args .i) (st .args .stride) (c .loop-test .taken))
 
 mul-off : tie.Need-mul-off Inv-loop μ-loop
-mul-off c = record { fits = omega (arith, row-fits (c .before .before .before .before .before .before .before .before .before .args .i) (c .before .before .before .before .before .before .before .before .before .args .stride) (c .loop-test .taken)) }
+mul-off c =
+    let st = c .before .before .before .before .before .before .before .before .before in
+    record { fits = omega (arith, row-fits (st .args .i) (st .args .stride) (c .loop-test .taken)) }
 
 add-off-2 : tie.Need-add-off-2 Inv-loop μ-loop
-add-off-2 c = omega (arith, row-fits (c .before .before .before .before .before .before .before .before .before .args .i) (c .before .before .before .before .before .before .before .before .before .args .stride) (c .loop-test .taken))
+add-off-2 c =
+    let st = c .before .before .before .before .before .before .before .before .before in
+    omega (arith, row-fits (st .args .i) (st .args .stride) (c .loop-test .taken))
 
 add-row-requires : tie.Need-add-row-requires Inv-loop μ-loop
-add-row-requires c κs = (omega (arith, row-fits (c .before .before .before .before .before .before .before .before .before .before .before .args .i) (c .before .before .before .before .before .before .before .before .before .before .before .args .stride) (c .before .before .loop-test .taken)), omega arith)
+add-row-requires c κs =
+    let st = c .before .before .before .before .before .before .before .before .before .before .before in
+    (omega (arith, row-fits (st .args .i) (st .args .stride) (c .before .before .loop-test .taken)), omega arith)
 
 loop-again : tie.Need-loop-again Inv-loop μ-loop
 unfolding rowsAdded

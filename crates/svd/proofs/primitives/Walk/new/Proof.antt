@@ -21,10 +21,14 @@ add-bl-2 : tie.Need-add-bl-2
 add-bl-2 c = omega (arith, few (c .saturating-sub .result) (c .before .args .stride) (omega (arith, c .saturating-sub .ensures)) (c .before .pre .1), few (c .saturating-sub .result + 1) (c .before .args .stride) (omega (arith, c .saturating-sub .ensures)) (c .before .pre .1), c .saturating-sub .ensures)
 
 mul-t10 : tie.Need-mul-t10
-mul-t10 c = record { fits = omega (arith, few (c .before .saturating-sub .result) (c .before .before .args .stride) (omega (arith, c .before .saturating-sub .ensures)) (c .before .before .pre .1), few (c .before .saturating-sub .result + 1) (c .before .before .args .stride) (omega (arith, c .before .saturating-sub .ensures)) (c .before .before .pre .1), c .before .saturating-sub .ensures) }
+mul-t10 c =
+    let st = c .before .before in
+    record { fits = omega (arith, few (c .before .saturating-sub .result) (st .args .stride) (omega (arith, c .before .saturating-sub .ensures)) (st .pre .1), few (c .before .saturating-sub .result + 1) (st .args .stride) (omega (arith, c .before .saturating-sub .ensures)) (st .pre .1), c .before .saturating-sub .ensures) }
 
 add-t12 : tie.Need-add-t12
-add-t12 c = omega (arith, few (c .before .saturating-sub .result) (c .before .before .args .stride) (omega (arith, c .before .saturating-sub .ensures)) (c .before .before .pre .1), few (c .before .saturating-sub .result + 1) (c .before .before .args .stride) (omega (arith, c .before .saturating-sub .ensures)) (c .before .before .pre .1), c .before .saturating-sub .ensures)
+add-t12 c =
+    let st = c .before .before in
+    omega (arith, few (c .before .saturating-sub .result) (st .args .stride) (omega (arith, c .before .saturating-sub .ensures)) (st .pre .1), few (c .before .saturating-sub .result + 1) (st .args .stride) (omega (arith, c .before .saturating-sub .ensures)) (st .pre .1), c .before .saturating-sub .ensures)
 
 returns : tie.Need-returns
 unfolding cornerStart

@@ -1,0 +1,127 @@
+/* merotunki.h: the proved singular value split of a survey's table, for C and C++.
+ *
+ * Link libapp.a: target/staticlib (x86-64) or target/native (the machine that built it); `bindings/build` makes both.
+ *
+ * TABLES are packed and row-major. Stations are the rows, passes are the columns: the reading of station i in pass j
+ * is matrix[i * columns + j]. U has rows x rows entries and goes with the stations (row 4 of U is station 4), V has
+ * columns x columns entries and goes with the passes. Sizes are 1 to 48 each.
+ *
+ * REFUSALS. Any numbers may be handed in. What is unfit is refused by number, checked in this order; nothing else is
+ * refused, and a refused call writes nothing but its answer:
+ *   0  accepted
+ *   1  rows or columns is 0
+ *   2  rows or columns is above 48
+ *   3  the matrix has not rows x columns entries
+ *   4  U has not rows x rows entries (the identity: not n x n)
+ *   5  V has not columns x columns entries
+ *   6  the limit is above 100,000 or the credit above 1,000
+ *   7  tolerance or absolute is below zero, infinite or NaN (-0 is allowed), or floor is not above zero or not finite
+ *   8  a reading is infinite or NaN; `place` is the first one's index in the matrix
+ *
+ * WHAT A C CALLER SEES TO, since no library can check it:
+ *   - Each pointer is good for as many entries as the length after it says, and aligned as its type is. A pointer with
+ *     length 0 is not followed; it may be NULL. That of the answer or choice may not.
+ *   - The slices of one call, and its answer, do not overlap.
+ *   - The thread's floating point is as C starts it: round to nearest, subnormal numbers kept (no flush to zero).
+ *
+ * MEMORY AND THREADS. No heap, no global state, no locks, no files; of other libraries memcpy and memset alone are
+ * called. Several threads may call at once, each on buffers of its own. A call uses less than 2,048 bytes of stack:
+ * `bindings/stack` measures it, 1,584 on 64-bit Arm and 1,664 on x86-64 at most.
+ *
+ * HOW THE CALLS ARE MADE. A slice is a pointer and a length, one after the other. An answer or choice is written where
+ * the first argument points, and that pointer is handed back. On x86-64 (System V, so not Windows) this is also how C
+ * returns such a struct: the pointer comes in rdi and goes back in rax. On 64-bit Arm it is not, C would use x8: here
+ * the pointer comes in x0 and goes back in x0. So keep to the declarations below. A part comes back by value as C does
+ * it: start and length in rax and rdx, on Arm in x0 and x1. Seen in the machine code of both builds.
+ */
+#ifndef MEROTUNKI_H
+#define MEROTUNKI_H
+
+#include <stddef.h>
+#include <stdint.h>
+
+#ifdef __cplusplus
+extern "C" {
+#endif
+
+/* The largest number of rows and of columns, and the largest limit and credit. */
+#define MEROTUNKI_MOST 48
+#define MEROTUNKI_MOST_LIMIT 100000
+#define MEROTUNKI_MOST_CREDIT 1000
+
+/* The words of an answer. */
+#define MEROTUNKI_NONE 0    /* refused */
+#define MEROTUNKI_SETTLED 1 /* every coupling was found negligible; range is 1 */
+#define MEROTUNKI_STOPPED 2 /* the limit ran out before; range is above 1. Read the values with that in mind. */
+
+/* The sides of merotunki_row. */
+#define MEROTUNKI_U 0
+#define MEROTUNKI_V 1
+
+/* What a split answers. In a refusal all but number and place is 0. */
+typedef struct merotunki_answer {
+    uint64_t number; /* 0 accepted, 1 to 8 refused */
+    uint64_t place;  /* for number 8 the index of the first bad reading, else 0 */
+    uint64_t word;   /* MEROTUNKI_NONE, MEROTUNKI_SETTLED or MEROTUNKI_STOPPED */
+    uint64_t passes; /* of the walk: each is a sweep or a drop */
+    uint64_t sweeps;
+    uint64_t drops;
+    uint64_t range; /* how much of the diagonal is still live: 1 where settled */
+} merotunki_answer;
+
+/* Where a row lies: its first entry and how many there are. */
+typedef struct merotunki_part {
+    uint64_t start;
+    uint64_t length;
+} merotunki_part;
+
+/* The settings of a split. */
+typedef struct merotunki_choice {
+    uint64_t limit;
+    uint64_t credit;
+    double tolerance;
+    double absolute;
+    double floor;
+} merotunki_choice;
+
+/* Does not compile where the structs or the lengths are laid out otherwise than the library has them. */
+typedef char merotunki_answer_has_56_bytes[sizeof(merotunki_answer) == 56 ? 1 : -1];
+typedef char merotunki_choice_has_40_bytes[sizeof(merotunki_choice) == 40 ? 1 : -1];
+typedef char merotunki_part_has_16_bytes[sizeof(merotunki_part) == 16 ? 1 : -1];
+typedef char merotunki_length_has_8_bytes[sizeof(size_t) == 8 && sizeof(double) == 8 ? 1 : -1];
+
+/* Writes the default settings: limit 100, credit 50, tolerance 1e-10, absolute 1e-12, floor 1e-21. */
+merotunki_choice *merotunki_defaults(merotunki_choice *choice);
+
+/* Splits the table. The matrix then holds what the method leaves: its values on the diagonal, matrix[k * columns + k],
+ * in no order and of either sign; beside them may stay what the method found negligible and, where it stopped, what it
+ * did not. Passes are none where rows or columns is 1, otherwise at most
+ * limit + credit * (the smaller of rows and columns - 2). Refuses with 1, 2, 3, 6, 7, 8. */
+merotunki_answer *merotunki_svd(merotunki_answer *answer, double *matrix, size_t matrix_length, size_t rows,
+                                size_t columns, size_t limit, size_t credit, double tolerance, double absolute,
+                                double floor);
+
+/* The same split, with U and V kept: matrix and answer are those of merotunki_svd. U and V are multiplied from the
+ * right as they stand and their entries are never examined, so fill both by merotunki_identity first; then the table
+ * as it was is U x matrix x (V transposed), but for rounding. Refuses with 1 to 8. */
+merotunki_answer *merotunki_full_svd(merotunki_answer *answer, double *matrix, size_t matrix_length, double *u,
+                                     size_t u_length, double *v, size_t v_length, size_t rows, size_t columns,
+                                     size_t limit, size_t credit, double tolerance, double absolute, double floor);
+
+/* Fills a with the identity of n rows and n columns. Answers 0, or refuses with 1, 2 or 4. */
+uint64_t merotunki_identity(double *a, size_t a_length, size_t n);
+
+/* Where row number `row` of U (side MEROTUNKI_U) or V (MEROTUNKI_V) lies: its entries are u[start] to
+ * u[start + length - 1], or v likewise. Not fit, and answered by start 0 and length 0: sizes outside 1 to 48, a wrong
+ * length of U or V, a side above 1, a row that there is not. Reads neither U nor V. */
+merotunki_part merotunki_row(const double *u, size_t u_length, const double *v, size_t v_length, size_t rows,
+                             size_t columns, size_t side, size_t row);
+
+/* The double nearest to the root of x. -0, +0 and +infinity stay; below zero and NaN give NaN. */
+double merotunki_square_root(double x);
+
+#ifdef __cplusplus
+}
+#endif
+
+#endif

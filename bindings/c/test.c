@@ -1,0 +1,384 @@
+/* test.c: calls every function that merotunki.h declares, refusals too, and compares what comes back with known
+ * answers. Prints each check that fails with its line, then `N checks passed`; status 1 where one failed. */
+#include "merotunki.h"
+
+#include <math.h>
+#include <pthread.h>
+#include <stdio.h>
+#include <string.h>
+
+#define MOST MEROTUNKI_MOST
+#define ENTRIES (MOST * MOST)
+#define LONG (ENTRIES + 2 * MOST + 2) /* one entry more than a table of 49 x 49 */
+
+static unsigned passed, failed;
+
+static void check(int good, int line, const char *what) {
+    if (good) {
+        passed++;
+    } else {
+        failed++;
+        printf("line %d: %s does not hold\n", line, what);
+    }
+}
+#define CHECK(what) check((what) != 0, __LINE__, #what)
+
+static uint64_t bits(double x) {
+    uint64_t pattern;
+    memcpy(&pattern, &x, sizeof pattern);
+    return pattern;
+}
+
+static double of_bits(uint64_t pattern) {
+    double x;
+    memcpy(&x, &pattern, sizeof x);
+    return x;
+}
+
+/* The same numbers each time, between -8 and 8. */
+static uint64_t seed;
+static double drawn(void) {
+    seed = seed * 6364136223846793005u + 1442695040888963407u;
+    return (double)(seed >> 11) / 562949953421312.0 - 8.0;
+}
+static void draw(double *a, size_t length) {
+    for (size_t i = 0; i < length; i++) a[i] = drawn();
+}
+
+/* A call and all that it is lent. */
+typedef struct job {
+    size_t rows, columns, matrix_length, u_length, v_length, limit, credit;
+    double tolerance, absolute, floor;
+    double matrix[LONG], u[LONG], v[LONG];
+    merotunki_answer answer;
+} job;
+
+static void prepare(job *j, size_t rows, size_t columns) {
+    merotunki_choice choice;
+    merotunki_defaults(&choice);
+    j->rows = rows, j->columns = columns;
+    j->matrix_length = rows * columns, j->u_length = rows * rows, j->v_length = columns * columns;
+    j->limit = choice.limit, j->credit = choice.credit;
+    j->tolerance = choice.tolerance, j->absolute = choice.absolute, j->floor = choice.floor;
+    draw(j->matrix, LONG);
+    merotunki_identity(j->u, rows * rows, rows);
+    merotunki_identity(j->v, columns * columns, columns);
+    memset(&j->answer, 0xAA, sizeof j->answer);
+}
+
+static void set(job *j, const double *entries) { memcpy(j->matrix, entries, j->matrix_length * sizeof(double)); }
+
+static merotunki_answer *plain(job *j) {
+    return merotunki_svd(&j->answer, j->matrix, j->matrix_length, j->rows, j->columns, j->limit, j->credit,
+                         j->tolerance, j->absolute, j->floor);
+}
+
+static merotunki_answer *full(job *j) {
+    return merotunki_full_svd(&j->answer, j->matrix, j->matrix_length, j->u, j->u_length, j->v, j->v_length, j->rows,
+                              j->columns, j->limit, j->credit, j->tolerance, j->absolute, j->floor);
+}
+
+static int answered(const job *j, uint64_t word, uint64_t passes, uint64_t sweeps, uint64_t drops, uint64_t range) {
+    merotunki_answer a = {0, 0, word, passes, sweeps, drops, range};
+    return memcmp(&a, &j->answer, sizeof a) == 0;
+}
+
+static int same(const double *a, const double *b, size_t length) { return memcmp(a, b, length * sizeof *a) == 0; }
+
+/* The call refuses by that number and place, all else in its answer is 0, and nothing that it was lent changes. */
+static job now, before;
+static int refused(merotunki_answer *(*call)(job *), uint64_t number, uint64_t place) {
+    merotunki_answer wanted = {0, 0, 0, 0, 0, 0, 0};
+    wanted.number = number, wanted.place = place;
+    for (size_t i = 0; i < LONG; i++) { /* U and V are never examined: no numbers at all */
+        now.u[i] = of_bits(UINT64_C(0x7FF8000000000000) + i);
+        now.v[i] = of_bits(UINT64_C(0xFFF0000000000001) + i);
+    }
+    memset(&now.answer, 0xAA, sizeof now.answer);
+    before = now;
+    before.answer = wanted;
+    return call(&now) == &now.answer && memcmp(&now, &before, sizeof now) == 0;
+}
+
+/* Makes `now` unfit for the number n and for no other. */
+static void unfit(unsigned n) {
+    switch (n) {
+    case 1: now.columns = 0; break;
+    case 2: now.rows = 49; break;
+    case 3: now.matrix_length -= 1; break;
+    case 4: now.u_length += 1; break;
+    case 5: now.v_length -= 1; break;
+    case 6: now.limit = MEROTUNKI_MOST_LIMIT + 1; break;
+    case 7: now.floor = 0.0; break;
+    case 8: now.matrix[5] = -INFINITY, now.matrix[7] = NAN; break;
+    }
+}
+
+/* A 4 x 3 job, changed so, is refused so by both calls; the plain one has no 4 and 5. */
+#define REFUSED(number, place, change)                                        \
+    do {                                                                      \
+        prepare(&now, 4, 3);                                                  \
+        change;                                                               \
+        CHECK(refused(full, number, place));                                  \
+        if (number != 4 && number != 5) CHECK(refused(plain, number, place)); \
+    } while (0)
+
+static void refusals(void) {
+    REFUSED(1, 0, now.rows = 0);
+    REFUSED(1, 0, now.columns = 0);
+    REFUSED(1, 0, now.rows = 0; now.matrix_length = 0; now.u_length = 0);
+    REFUSED(1, 0, now.rows = 49; now.columns = 0);
+    REFUSED(2, 0, prepare(&now, 49, 3));
+    REFUSED(2, 0, prepare(&now, 3, 49));
+    REFUSED(2, 0, now.rows = SIZE_MAX);
+    REFUSED(2, 0, now.rows = (size_t)1 << 32; now.columns = (size_t)1 << 32; now.matrix_length = 0);
+    REFUSED(3, 0, now.matrix_length = 11);
+    REFUSED(3, 0, now.matrix_length = 13);
+    REFUSED(3, 0, now.matrix_length = 0);
+    REFUSED(4, 0, now.u_length = 15);
+    REFUSED(4, 0, now.u_length = 17);
+    REFUSED(4, 0, now.u_length = 9; now.v_length = 16);
+    REFUSED(5, 0, now.v_length = 8);
+    REFUSED(5, 0, now.v_length = 10);
+    REFUSED(6, 0, now.limit = 100001);
+    REFUSED(6, 0, now.limit = SIZE_MAX);
+    REFUSED(6, 0, now.credit = 1001);
+    REFUSED(6, 0, now.credit = SIZE_MAX);
+    REFUSED(7, 0, now.tolerance = -5e-324);
+    REFUSED(7, 0, now.tolerance = INFINITY);
+    REFUSED(7, 0, now.tolerance = NAN);
+    REFUSED(7, 0, now.absolute = -1.0);
+    REFUSED(7, 0, now.absolute = INFINITY);
+    REFUSED(7, 0, now.absolute = NAN);
+    REFUSED(7, 0, now.floor = 0.0);
+    REFUSED(7, 0, now.floor = -0.0);
+    REFUSED(7, 0, now.floor = -1.0);
+    REFUSED(7, 0, now.floor = INFINITY);
+    REFUSED(7, 0, now.floor = NAN);
+    REFUSED(8, 0, now.matrix[0] = NAN);
+    REFUSED(8, 11, now.matrix[11] = INFINITY);
+    REFUSED(8, 5, now.matrix[5] = -INFINITY; now.matrix[7] = NAN);
+    /* the order: whatever else is unfit, the first number is given */
+    for (unsigned first = 1; first <= 8; first++) {
+        for (unsigned other = first + 1; other <= 8; other++) {
+            REFUSED(first, 0, unfit(first); unfit(other));
+        }
+    }
+    /* a pointer with length 0 is not followed */
+    merotunki_answer answer;
+    CHECK(merotunki_svd(&answer, NULL, 0, 4, 3, 100, 50, 0, 0, 1)->number == 3);
+    CHECK(merotunki_full_svd(&answer, NULL, 0, NULL, 0, NULL, 0, 4, 3, 100, 50, 0, 0, 1)->number == 3);
+    CHECK(merotunki_identity(NULL, 0, 2) == 4);
+    /* and what is not refused */
+    static const size_t sizes[][2] = {{1, 1}, {48, 48}, {48, 1}, {1, 48}};
+    for (size_t i = 0; i < 4; i++) {
+        prepare(&now, sizes[i][0], sizes[i][1]);
+        CHECK(full(&now)->number == 0);
+    }
+    prepare(&now, 3, 4);
+    now.limit = 100000, now.credit = 1000, now.tolerance = -0.0, now.absolute = 1e300, now.floor = 5e-324;
+    CHECK(full(&now)->number == 0 && now.answer.word == MEROTUNKI_STOPPED); /* nothing is below a bound of 0 */
+    prepare(&now, 4, 3);
+    now.u[3] = NAN, now.v[2] = INFINITY, now.matrix[12] = NAN; /* the entry after the table is not its own */
+    CHECK(full(&now)->number == 0 && isnan(now.matrix[12]));
+}
+
+static void known(void) {
+    static job a;
+    prepare(&a, 2, 1);
+    set(&a, (double[]){3, 4});
+    CHECK(plain(&a) == &a.answer && answered(&a, MEROTUNKI_SETTLED, 0, 0, 0, 1));
+    CHECK(bits(a.matrix[0]) == bits(-5.0) && bits(a.matrix[1]) == 0);
+    prepare(&a, 1, 2);
+    set(&a, (double[]){3, 4});
+    CHECK(full(&a) == &a.answer && answered(&a, MEROTUNKI_SETTLED, 0, 0, 0, 1));
+    CHECK(same(a.matrix, (double[]){-5, 0}, 2) && a.u[0] == 1.0);
+    prepare(&a, 1, 1);
+    set(&a, (double[]){-3});
+    CHECK(full(&a) && answered(&a, MEROTUNKI_SETTLED, 0, 0, 0, 1) && a.matrix[0] == -3.0);
+    prepare(&a, 2, 2);
+    set(&a, (double[]){2, 0, 0, 1});
+    CHECK(full(&a) && answered(&a, MEROTUNKI_SETTLED, 1, 0, 1, 1));
+    CHECK(a.matrix[0] == -2 && a.matrix[1] == 0 && a.matrix[2] == 0 && a.matrix[3] == 1);
+    CHECK(a.u[0] == -1 && a.u[1] == 0 && a.u[2] == 0 && a.u[3] == 1);
+    prepare(&a, 2, 2);
+    set(&a, (double[]){2, 0, 0, 1});
+    a.limit = 0;
+    CHECK(plain(&a) && answered(&a, MEROTUNKI_STOPPED, 0, 0, 0, 2) && a.matrix[0] == -2);
+    prepare(&a, 2, 2);
+    set(&a, (double[]){0, 0, 0, 0});
+    a.limit = 3;
+    CHECK(full(&a) && answered(&a, MEROTUNKI_STOPPED, 3, 3, 0, 2) && same(a.matrix, (double[4]){0}, 4));
+    CHECK(same(a.u, (double[]){-0.0, 1, -1, -0.0}, 4) && same(a.v, (double[]){-0.0, 1, -1, -0.0}, 4));
+    prepare(&a, 3, 3);
+    set(&a, (double[]){1, 1, 1, 1, 1, 1, 1, 1, 1});
+    CHECK(plain(&a) && answered(&a, MEROTUNKI_STOPPED, 100, 100, 0, 3));
+    /* not from the identity: U and V are multiplied from the right as they stand */
+    prepare(&a, 2, 2);
+    set(&a, (double[]){2, 0, 0, 1});
+    memcpy(a.u, (double[]){7, 5, 3, 2}, 4 * sizeof(double));
+    CHECK(full(&a) && a.u[0] == -7 && a.u[1] == 5 && a.u[2] == -3 && a.u[3] == 2);
+}
+
+/* The distances between the table as it was and U x matrix x (V transposed), added up. */
+static double distance(const job *j, const double *was) {
+    static double half[ENTRIES];
+    double total = 0;
+    size_t r = j->rows, c = j->columns;
+    for (size_t i = 0; i < r; i++)
+        for (size_t k = 0; k < c; k++) {
+            half[i * c + k] = 0;
+            for (size_t l = 0; l < r; l++) half[i * c + k] += j->u[i * r + l] * j->matrix[l * c + k];
+        }
+    for (size_t i = 0; i < r; i++)
+        for (size_t k = 0; k < c; k++) {
+            double sum = 0;
+            for (size_t l = 0; l < c; l++) sum += half[i * c + l] * j->v[k * c + l];
+            total += fabs(sum - was[i * c + k]);
+        }
+    return total;
+}
+
+/* Drawn tables, and for each the passes and a sum over the bits of matrix, U and V, as the original Rust gives them
+ * (by the oracle in beside/). */
+static const struct known {
+    size_t rows, columns;
+    uint64_t passes, sum;
+} answers[] = {
+    {1, 1, 0, UINT64_C(0x3159F754ACA15057)},     {1, 7, 0, UINT64_C(0x014C4C0133E42B9D)},
+    {7, 1, 0, UINT64_C(0x881D90FA72676BAC)},     {2, 2, 2, UINT64_C(0xA0D61E8BEA8827CC)},
+    {3, 5, 5, UINT64_C(0xD8E8EA386B72070B)},     {5, 3, 8, UINT64_C(0x959C80C81842B9B5)},
+    {8, 8, 21, UINT64_C(0x010B05660EF4375E)},    {16, 48, 46, UINT64_C(0xF251AC3E5A1E9DE9)},
+    {48, 17, 52, UINT64_C(0x3AC4289425D94029)},  {48, 48, 128, UINT64_C(0xE5CEE60EB3644596)},
+};
+#define ANSWERS (sizeof answers / sizeof *answers)
+
+static uint64_t summed(uint64_t sum, const double *a, size_t length) {
+    for (size_t i = 0; i < length; i++) sum = (sum ^ bits(a[i])) * UINT64_C(0x100000001B3);
+    return sum;
+}
+
+static void both(void) {
+    static job a, b;
+    static double was[LONG];
+    for (size_t i = 0; i < ANSWERS; i++) {
+        seed = i;
+        prepare(&a, answers[i].rows, answers[i].columns);
+        b = a;
+        memcpy(was, a.matrix, sizeof was);
+        plain(&a);
+        full(&b);
+        CHECK(a.answer.number == 0 && a.answer.word == MEROTUNKI_SETTLED && a.answer.range == 1);
+        CHECK(a.answer.passes == answers[i].passes && a.answer.passes == a.answer.sweeps + a.answer.drops);
+        CHECK(same(a.matrix, b.matrix, LONG) && memcmp(&a.answer, &b.answer, sizeof a.answer) == 0);
+        CHECK(same(a.matrix + a.matrix_length, was + a.matrix_length, LONG - a.matrix_length));
+        CHECK(distance(&b, was) < 1e-9);
+        uint64_t sum = summed(UINT64_C(0xCBF29CE484222325), b.matrix, b.matrix_length);
+        CHECK(summed(summed(sum, b.u, b.u_length), b.v, b.v_length) == answers[i].sum);
+    }
+}
+
+static void identities(void) {
+    static double a[LONG], was[LONG];
+    draw(a, LONG);
+    memcpy(was, a, sizeof a);
+    CHECK(merotunki_identity(a, 0, 0) == 1 && merotunki_identity(a, 9, 0) == 1);
+    CHECK(merotunki_identity(a, 49 * 49, 49) == 2 && merotunki_identity(a, 0, (size_t)1 << 32) == 2);
+    CHECK(merotunki_identity(a, 8, 3) == 4 && merotunki_identity(a, 10, 3) == 4 && merotunki_identity(a, 0, 1) == 4);
+    CHECK(same(a, was, LONG));
+    for (size_t n = 1; n <= MOST; n++) {
+        draw(a, LONG);
+        memcpy(was, a, sizeof a);
+        for (size_t i = 0; i < n * n; i++) was[i] = i / n == i % n ? 1.0 : 0.0;
+        CHECK(merotunki_identity(a, n * n, n) == 0 && same(a, was, LONG));
+    }
+}
+
+static int lies(merotunki_part part, uint64_t start, uint64_t length) {
+    return part.start == start && part.length == length;
+}
+
+static void rows(void) {
+    static double u[LONG], v[LONG];
+    for (size_t i = 0; i < 5; i++) CHECK(lies(merotunki_row(u, 25, v, 9, 5, 3, MEROTUNKI_U, i), 5 * i, 5));
+    for (size_t i = 0; i < 3; i++) CHECK(lies(merotunki_row(u, 25, v, 9, 5, 3, MEROTUNKI_V, i), 3 * i, 3));
+    CHECK(lies(merotunki_row(u, 2304, v, 2304, 48, 48, MEROTUNKI_V, 47), 47 * 48, 48));
+    CHECK(lies(merotunki_row(u, 1, v, 1, 1, 1, MEROTUNKI_U, 0), 0, 1));
+    /* not fit */
+    CHECK(lies(merotunki_row(u, 25, v, 9, 5, 3, MEROTUNKI_U, 5), 0, 0));
+    CHECK(lies(merotunki_row(u, 25, v, 9, 5, 3, MEROTUNKI_V, 3), 0, 0));
+    CHECK(lies(merotunki_row(u, 25, v, 9, 5, 3, MEROTUNKI_U, SIZE_MAX), 0, 0));
+    CHECK(lies(merotunki_row(u, 25, v, 9, 5, 3, 2, 1), 0, 0));
+    CHECK(lies(merotunki_row(u, 25, v, 9, 5, 3, SIZE_MAX, 1), 0, 0));
+    CHECK(lies(merotunki_row(u, 24, v, 9, 5, 3, MEROTUNKI_U, 1), 0, 0));
+    CHECK(lies(merotunki_row(u, 26, v, 9, 5, 3, MEROTUNKI_V, 1), 0, 0));
+    CHECK(lies(merotunki_row(u, 25, v, 8, 5, 3, MEROTUNKI_U, 1), 0, 0));
+    CHECK(lies(merotunki_row(u, 25, v, 10, 5, 3, MEROTUNKI_V, 1), 0, 0));
+    CHECK(lies(merotunki_row(u, 0, v, 9, 0, 3, MEROTUNKI_V, 1), 0, 0));
+    CHECK(lies(merotunki_row(u, 25, v, 0, 5, 0, MEROTUNKI_U, 1), 0, 0));
+    CHECK(lies(merotunki_row(u, 2401, v, 9, 49, 3, MEROTUNKI_V, 1), 0, 0));
+    CHECK(lies(merotunki_row(u, 25, v, 2401, 5, 49, MEROTUNKI_U, 1), 0, 0));
+}
+
+static void settings_and_roots(void) {
+    merotunki_choice choice;
+    memset(&choice, 0xAA, sizeof choice);
+    CHECK(merotunki_defaults(&choice) == &choice);
+    CHECK(choice.limit == 100 && choice.credit == 50);
+    CHECK(choice.tolerance == 1e-10 && choice.absolute == 1e-12 && choice.floor == 1e-21);
+    CHECK(bits(merotunki_square_root(2.0)) == UINT64_C(0x3FF6A09E667F3BCD));
+    CHECK(isnan(merotunki_square_root(-1.0)) && isnan(merotunki_square_root(NAN)));
+    CHECK(bits(merotunki_square_root(-0.0)) == bits(-0.0) && bits(merotunki_square_root(0.0)) == 0);
+    CHECK(merotunki_square_root(INFINITY) == INFINITY && isnan(merotunki_square_root(-INFINITY)));
+    CHECK(merotunki_square_root(of_bits(1)) == 0x1p-537); /* of 2^-1074 */
+    CHECK(merotunki_square_root(of_bits(UINT64_C(0x3FF0000000000001))) == 1.0);
+    CHECK(bits(merotunki_square_root(of_bits(UINT64_C(0x7FEFFFFFFFFFFFFF)))) == UINT64_C(0x5FEFFFFFFFFFFFFF));
+}
+
+/* A thread's own job, run again and again; `wrong` counts the runs that came out otherwise than the first one alone. */
+typedef struct worker {
+    job start, wanted, own;
+    unsigned wrong, runs;
+    pthread_barrier_t *line;
+} worker;
+
+static void *work(void *given) {
+    worker *w = given;
+    pthread_barrier_wait(w->line);
+    for (w->runs = 0; w->runs < 60; w->runs++) {
+        w->own = w->start;
+        full(&w->own);
+        w->wrong += memcmp(&w->own, &w->wanted, sizeof w->own) != 0;
+    }
+    return NULL;
+}
+
+static void threads(void) {
+    static worker two[2];
+    pthread_t names[2];
+    pthread_barrier_t line;
+    pthread_barrier_init(&line, NULL, 2);
+    for (int i = 0; i < 2; i++) {
+        memset(&two[i], 0, sizeof two[i]);
+        prepare(&two[i].start, i ? 48 : 31, i ? 29 : 48);
+        two[i].wanted = two[i].start;
+        full(&two[i].wanted);
+        two[i].line = &line;
+    }
+    CHECK(!same(two[0].wanted.u, two[1].wanted.u, ENTRIES));
+    for (int i = 0; i < 2; i++) CHECK(pthread_create(&names[i], NULL, work, &two[i]) == 0);
+    for (int i = 0; i < 2; i++) CHECK(pthread_join(names[i], NULL) == 0 && two[i].runs == 60 && two[i].wrong == 0);
+}
+
+int main(void) {
+    settings_and_roots();
+    refusals();
+    known();
+    both();
+    identities();
+    rows();
+    threads();
+    if (failed) printf("%u checks FAILED\n", failed);
+    printf("%u checks passed\n", passed);
+    return failed != 0;
+}

@@ -1,0 +1,19 @@
+/* split.c: splits a table of 4 stations and 3 passes and prints what an app would show. */
+#include "merotunki.h"
+#include <stdio.h>
+
+int main(void) {
+    double table[12] = {1.2, 1.4, 1.1, 2.4, 2.5, 2.9, 1.9, 2.6, 1.8, 0.7, 0.9, 1.3}, u[16], v[9];
+    merotunki_choice c;
+    merotunki_answer a;
+    merotunki_defaults(&c);
+    merotunki_identity(u, 16, 4);
+    merotunki_identity(v, 9, 3);
+    merotunki_full_svd(&a, table, 12, u, 16, v, 9, 4, 3, c.limit, c.credit, c.tolerance, c.absolute, c.floor);
+    if (a.number != 0) return printf("refused by %d at %d\n", (int)a.number, (int)a.place), 1;
+    printf("%s, passes %d\n", a.word == MEROTUNKI_SETTLED ? "settled" : "stopped", (int)a.passes);
+    printf("values [%f, %f, %f]\n", table[0], table[4], table[8]);
+    const double *row = u + merotunki_row(u, 16, v, 9, 4, 3, MEROTUNKI_U, 0).start;
+    printf("station 0 [%f, %f, %f, %f]\n", row[0], row[1], row[2], row[3]);
+    return 0;
+}

@@ -1,0 +1,130 @@
+//! The library's own functions as raw.rs declares them: every number in its order with nothing written,
+//! the identity's refusals, and every way that a row is not fit.
+
+use merotunki::raw::*;
+
+// What a call is lent. A table of 4 x 3 that is fit until something is changed.
+#[derive(Clone)]
+struct Lent {
+    rows: usize,
+    columns: usize,
+    lengths: [usize; 3],
+    choice: Choice,
+    entries: [Vec<f64>; 3],
+}
+
+fn fit() -> Lent {
+    let mut choice = Choice::default();
+    let given: *mut Choice = &mut choice;
+    assert_eq!(unsafe { merotunki_defaults(given) }, given);
+    // U and V are never examined: no numbers at all
+    let entries = [(1..=20).map(f64::from).collect(), vec![f64::NAN; 20], vec![f64::INFINITY; 20]];
+    Lent { rows: 4, columns: 3, lengths: [12, 16, 9], choice, entries }
+}
+
+// Unfit for that number and for no other.
+fn spoil(l: &mut Lent, number: u64) {
+    match number {
+        1 => l.columns = 0,
+        2 => l.rows = 49,
+        3 => l.lengths[0] = 11,
+        4 => l.lengths[1] = 17,
+        5 => l.lengths[2] = 8,
+        6 => l.choice.credit = 1001,
+        7 => l.choice.absolute = f64::NAN,
+        _ => (l.entries[0][5], l.entries[0][7]) = (f64::NEG_INFINITY, f64::NAN),
+    }
+}
+
+fn call(l: &mut Lent, full: bool) -> Answer {
+    let mut answer =
+        Answer { number: 99, place: 99, word: 99, passes: 99, sweeps: 99, drops: 99, range: 99 };
+    let given: *mut Answer = &mut answer;
+    let c = l.choice;
+    let (limit, credit) = (c.limit as usize, c.credit as usize);
+    let [m, u, v] = &mut l.entries;
+    let (m, u, v) = (m.as_mut_ptr(), u.as_mut_ptr(), v.as_mut_ptr());
+    let [ml, ul, vl] = l.lengths;
+    let (t, a, f) = (c.tolerance, c.absolute, c.floor);
+    let back = unsafe {
+        if full {
+            merotunki_full_svd(
+                given, m, ml, u, ul, v, vl, l.rows, l.columns, limit, credit, t, a, f,
+            )
+        } else {
+            merotunki_svd(given, m, ml, l.rows, l.columns, limit, credit, t, a, f)
+        }
+    };
+    assert_eq!(back, given);
+    answer
+}
+
+fn patterns(l: &Lent) -> Vec<u64> {
+    l.entries.iter().flatten().map(|x| x.to_bits()).collect()
+}
+
+#[test]
+fn every_number_comes_first_and_writes_nothing() {
+    for full in [false, true] {
+        for first in (1..=8).filter(|n| full || !(4..=5).contains(n)) {
+            for other in first..=8 {
+                let mut l = fit();
+                spoil(&mut l, first);
+                spoil(&mut l, other);
+                let before = patterns(&l);
+                let place = if first == 8 { 5 } else { 0 };
+                assert_eq!(
+                    call(&mut l, full),
+                    Answer { number: first, place, ..Answer::default() }
+                );
+                assert_eq!(patterns(&l), before);
+            }
+        }
+        let mut l = fit();
+        let before = patterns(&l);
+        let answer = call(&mut l, full);
+        assert_eq!((answer.number, answer.word, answer.range), (0, 1, 1));
+        assert_ne!(patterns(&l)[..12], before[..12]);
+        assert_eq!(patterns(&l)[12..20], before[12..20]);
+    }
+}
+
+#[test]
+fn identity_refuses_1_2_4() {
+    let mut a = vec![7.0; 2401];
+    let mut fill =
+        |length: usize, n| unsafe { merotunki_identity(a[..length].as_mut_ptr(), length, n) };
+    assert_eq!([fill(0, 0), fill(9, 0)], [1, 1]);
+    assert_eq!([fill(2401, 49), fill(0, 1 << 32)], [2, 2]);
+    assert_eq!([fill(8, 3), fill(10, 3), fill(0, 1)], [4, 4, 4]);
+    assert_eq!(a, vec![7.0; 2401]);
+    assert_eq!(unsafe { merotunki_identity(a.as_mut_ptr(), 4, 2) }, 0);
+    assert_eq!(a[..5], [1.0, 0.0, 0.0, 1.0, 7.0]);
+}
+
+#[test]
+fn rows_that_are_and_are_not() {
+    let (u, v) = (vec![0.0; 2401], vec![0.0; 2401]);
+    let row = |ul: usize, vl: usize, rows, columns, side, row| {
+        let (u, v) = (&u[..ul], &v[..vl]);
+        let part =
+            unsafe { merotunki_row(u.as_ptr(), ul, v.as_ptr(), vl, rows, columns, side, row) };
+        (part.start, part.length)
+    };
+    assert_eq!([row(25, 9, 5, 3, 0, 0), row(25, 9, 5, 3, 0, 4)], [(0, 5), (20, 5)]);
+    assert_eq!([row(25, 9, 5, 3, 1, 0), row(25, 9, 5, 3, 1, 2)], [(0, 3), (6, 3)]);
+    let unfit = [
+        row(25, 9, 5, 3, 0, 5),
+        row(25, 9, 5, 3, 1, 3),
+        row(25, 9, 5, 3, 2, 1),
+        row(24, 9, 5, 3, 0, 1),
+        row(26, 9, 5, 3, 1, 1),
+        row(25, 8, 5, 3, 0, 1),
+        row(25, 10, 5, 3, 1, 1),
+        row(0, 9, 0, 3, 1, 1),
+        row(25, 0, 5, 0, 0, 1),
+        row(2401, 9, 49, 3, 1, 1),
+        row(25, 2401, 5, 49, 0, 1),
+    ];
+    assert_eq!(unfit, [(0, 0); 11]);
+}

@@ -1,0 +1,232 @@
+//! The wrapper's types on known tables, and every refusal that they can give, with nothing written.
+
+use merotunki::{Factors, MOST, Refusal, Report, Settings, Table, square_root};
+
+// The same numbers for the same seed, between -8 and 8.
+fn drawn(seed: u64, length: usize) -> Vec<f64> {
+    let mut state = seed;
+    let mut next = || {
+        state = state.wrapping_mul(6364136223846793005).wrapping_add(1442695040888963407);
+        (state >> 11) as f64 / 562949953421312.0 - 8.0
+    };
+    (0..length).map(|_| next()).collect()
+}
+
+fn bits(a: &[f64]) -> Vec<u64> {
+    a.iter().map(|x| x.to_bits()).collect()
+}
+
+fn rows(f: &Factors, stations: usize, passes: usize) -> (Vec<f64>, Vec<f64>) {
+    let u = (0..stations).flat_map(|i| f.station(i).unwrap().to_vec()).collect();
+    let v = (0..passes).flat_map(|j| f.pass(j).unwrap().to_vec()).collect();
+    (u, v)
+}
+
+#[test]
+fn known_tables() {
+    let plain = Settings::default();
+    let mut a = [3.0, 4.0];
+    let settled = Report::Settled { passes: 0, sweeps: 0, drops: 0 };
+    assert_eq!(Table::new(&mut a, 2, 1).unwrap().split(&plain), Ok(settled));
+    assert_eq!(bits(&a), bits(&[-5.0, 0.0]));
+
+    let mut a = [1.0; 9];
+    let stopped = Report::Stopped { passes: 100, sweeps: 100, drops: 0, range: 3 };
+    assert_eq!(Table::new(&mut a, 3, 3).unwrap().split(&plain), Ok(stopped));
+    assert_eq!(stopped.to_string(), "stopped, passes 100, range left 3");
+
+    let mut a = [2.0, 0.0, 0.0, 1.0];
+    let mut table = Table::new(&mut a, 2, 2).unwrap();
+    let mut factors = Factors::new(&table);
+    let report = table.split_with(&mut factors, &plain).unwrap();
+    assert_eq!(report, Report::Settled { passes: 1, sweeps: 0, drops: 1 });
+    assert_eq!(report.to_string(), "settled, passes 1");
+    assert_eq!(table.entries(), [-2.0, 0.0, 0.0, 1.0]);
+    assert_eq!(factors.station(0), Some(&[-1.0, 0.0][..]));
+
+    let mut a = [0.0; 4];
+    let short = plain.with_limit(3).unwrap();
+    let stopped = Report::Stopped { passes: 3, sweeps: 3, drops: 0, range: 2 };
+    assert_eq!(Table::new(&mut a, 2, 2).unwrap().split(&short), Ok(stopped));
+}
+
+// Drawn tables, and for each the walk's passes and a sum over the bits of table, U and V, as the
+// original Rust gives them (by the oracle in beside/).
+const ANSWERS: [(usize, usize, u64, u64); 10] = [
+    (1, 1, 0, 0x3159F754ACA15057),
+    (1, 7, 0, 0x014C4C0133E42B9D),
+    (7, 1, 0, 0x881D90FA72676BAC),
+    (2, 2, 2, 0xA0D61E8BEA8827CC),
+    (3, 5, 5, 0xD8E8EA386B72070B),
+    (5, 3, 8, 0x959C80C81842B9B5),
+    (8, 8, 21, 0x010B05660EF4375E),
+    (16, 48, 46, 0xF251AC3E5A1E9DE9),
+    (48, 17, 52, 0x3AC4289425D94029),
+    (48, 48, 128, 0xE5CEE60EB3644596),
+];
+
+#[test]
+fn plain_is_accumulating_is_the_original() {
+    for (i, (stations, passes, walked, sum)) in ANSWERS.into_iter().enumerate() {
+        let was = drawn(i as u64, stations * passes);
+        let (mut a, mut b) = (was.clone(), was.clone());
+        let report = Table::new(&mut a, stations, passes).unwrap().split(&Settings::default());
+        let mut table = Table::new(&mut b, stations, passes).unwrap();
+        let mut factors = Factors::new(&table);
+        assert_eq!(table.split_with(&mut factors, &Settings::default()), report);
+        assert!(matches!(report, Ok(Report::Settled { passes, .. }) if passes == walked));
+        let values: Vec<f64> = table.values().collect();
+        assert_eq!(values.len(), stations.min(passes));
+        assert!((0..values.len()).all(|k| values[k] == a[k * passes + k]));
+        assert_eq!(bits(&a), bits(&b));
+        let (u, v) = rows(&factors, stations, passes);
+        let all = bits(&b).into_iter().chain(bits(&u)).chain(bits(&v));
+        let step = |sum: u64, word: u64| (sum ^ word).wrapping_mul(0x100000001B3);
+        assert_eq!(all.fold(0xCBF29CE484222325, step), sum);
+    }
+}
+
+#[test]
+fn factors_start_as_the_identity() {
+    for (stations, passes) in [(1, 1), (3, 2), (2, 5), (MOST, MOST)] {
+        let mut a = drawn(1, stations * passes);
+        let factors = Factors::new(&Table::new(&mut a, stations, passes).unwrap());
+        let identity = |n: usize| (0..n * n).map(|i| f64::from(i / n == i % n)).collect::<Vec<_>>();
+        let (u, v) = rows(&factors, stations, passes);
+        assert_eq!((bits(&u), bits(&v)), (bits(&identity(stations)), bits(&identity(passes))));
+        assert_eq!((factors.station(stations), factors.pass(passes)), (None, None));
+        assert_eq!((factors.station(usize::MAX), factors.pass(usize::MAX)), (None, None));
+    }
+}
+
+#[test]
+fn unfit_tables() {
+    let mut a = drawn(2, 49 * 3);
+    let was = a.clone();
+    let mut refusal = |length: usize, stations, passes| {
+        Table::new(&mut a[..length], stations, passes).unwrap_err()
+    };
+    assert_eq!(refusal(0, 0, 3), Refusal::Empty);
+    assert_eq!(refusal(3, 3, 0), Refusal::Empty);
+    assert_eq!(refusal(0, 0, 49), Refusal::Empty);
+    assert_eq!(refusal(147, 49, 3), Refusal::Large);
+    assert_eq!(refusal(147, 3, 49), Refusal::Large);
+    assert_eq!(refusal(0, 1 << 32, 1 << 32), Refusal::Large);
+    assert_eq!(refusal(11, 4, 3), Refusal::Length);
+    assert_eq!(refusal(13, 4, 3), Refusal::Length);
+    assert!(Table::new(&mut a[..144], 48, 3).is_ok());
+    assert_eq!(bits(&a), bits(&was));
+    // a table is not split by being made, nor are its readings looked at
+    let mut odd = [f64::NAN, 1.0];
+    assert!(Table::new(&mut odd, 1, 2).is_ok());
+}
+
+#[test]
+fn unfit_settings() {
+    let s = Settings::default();
+    assert_eq!((s.limit(), s.credit()), (100, 50));
+    assert_eq!((s.tolerance(), s.absolute(), s.floor()), (1e-10, 1e-12, 1e-21));
+    assert_eq!(
+        (s.with_limit(100_001), s.with_limit(u64::MAX)),
+        (Err(Refusal::Count), Err(Refusal::Count))
+    );
+    assert_eq!(
+        (s.with_credit(1_001), s.with_credit(u64::MAX)),
+        (Err(Refusal::Count), Err(Refusal::Count))
+    );
+    for bad in [-5e-324, -1.0, f64::INFINITY, f64::NEG_INFINITY, f64::NAN] {
+        assert_eq!(s.with_tolerance(bad), Err(Refusal::Bound));
+        assert_eq!(s.with_absolute(bad), Err(Refusal::Bound));
+        assert_eq!(s.with_floor(bad), Err(Refusal::Bound));
+    }
+    assert_eq!((s.with_floor(0.0), s.with_floor(-0.0)), (Err(Refusal::Bound), Err(Refusal::Bound)));
+    let t = s
+        .with_limit(100_000)
+        .and_then(|s| s.with_credit(1_000))
+        .and_then(|s| s.with_tolerance(-0.0));
+    let t = t.and_then(|s| s.with_absolute(f64::MAX)).and_then(|s| s.with_floor(5e-324)).unwrap();
+    assert_eq!(
+        (t.limit(), t.credit(), t.absolute(), t.floor()),
+        (100_000, 1_000, f64::MAX, 5e-324)
+    );
+    assert_eq!(t.tolerance().to_bits(), (-0.0f64).to_bits());
+}
+
+#[test]
+fn bad_readings_and_other_tables_factors() {
+    let was = drawn(3, 12);
+    for (bad, at) in [(f64::NAN, 0), (f64::INFINITY, 7), (f64::NEG_INFINITY, 11)] {
+        let mut a = was.clone();
+        a[at] = bad;
+        a[11] = bad;
+        let before = bits(&a);
+        let mut table = Table::new(&mut a, 4, 3).unwrap();
+        let mut factors = Factors::new(&table);
+        let fresh = factors.clone();
+        let refusal = Err(Refusal::Reading { station: at / 3, pass: at % 3 });
+        assert_eq!(table.split(&Settings::default()), refusal);
+        assert_eq!(table.split_with(&mut factors, &Settings::default()), refusal);
+        assert_eq!((bits(&a), factors), (before, fresh));
+    }
+    for (stations, passes, refusal) in
+        [(3, 3, Refusal::Stations), (4, 4, Refusal::Passes), (3, 4, Refusal::Stations)]
+    {
+        let (mut a, mut other) = (was.clone(), drawn(4, stations * passes));
+        let mut factors = Factors::new(&Table::new(&mut other, stations, passes).unwrap());
+        let fresh = factors.clone();
+        let mut table = Table::new(&mut a, 4, 3).unwrap();
+        assert_eq!(table.split_with(&mut factors, &Settings::default()), Err(refusal));
+        assert_eq!((bits(&a), factors), (bits(&was), fresh));
+    }
+}
+
+#[test]
+fn refusals_have_numbers_and_texts() {
+    use Refusal::*;
+    let all =
+        [Empty, Large, Length, Stations, Passes, Count, Bound, Reading { station: 4, pass: 2 }];
+    assert_eq!(all.map(|r| r.number()), [1, 2, 3, 4, 5, 6, 7, 8]);
+    let mut texts = all.map(|r| r.to_string()).to_vec();
+    assert_eq!(texts[7], "The reading of station 4 in pass 2 is not a usable number.");
+    assert!(texts.iter().all(|t| t.len() < 80 && t.ends_with('.')));
+    texts.sort();
+    texts.dedup();
+    assert_eq!(texts.len(), 8);
+}
+
+#[test]
+fn roots() {
+    assert_eq!(square_root(2.0).to_bits(), 0x3FF6A09E667F3BCD);
+    assert!(square_root(-1.0).is_nan() && square_root(f64::NAN).is_nan());
+    assert_eq!(square_root(-0.0).to_bits(), (-0.0f64).to_bits());
+    assert_eq!(square_root(f64::INFINITY), f64::INFINITY);
+    for x in drawn(5, 1000) {
+        assert_eq!(square_root(x.abs()).to_bits(), x.abs().sqrt().to_bits());
+    }
+}
+
+#[test]
+fn two_threads_at_once() {
+    let split = |seed: u64, stations: usize, passes: usize| {
+        let mut a = drawn(seed, stations * passes);
+        let mut table = Table::new(&mut a, stations, passes).unwrap();
+        let mut factors = Factors::new(&table);
+        let report = table.split_with(&mut factors, &Settings::default()).unwrap();
+        (bits(&a), factors, report)
+    };
+    let jobs = [(6, 48, 31), (7, 29, 48)];
+    let alone = jobs.map(|(seed, r, c)| split(seed, r, c));
+    assert_ne!(alone[0], alone[1]);
+    let line = std::sync::Barrier::new(2);
+    std::thread::scope(|scope| {
+        for (job, wanted) in jobs.iter().zip(&alone) {
+            let line = &line;
+            scope.spawn(move || {
+                line.wait();
+                for _ in 0..40 {
+                    assert_eq!(&split(job.0, job.1, job.2), wanted);
+                }
+            });
+        }
+    });
+}
