@@ -50,9 +50,11 @@ finished text out₀ out out₁ es count line p m q i r s h e w =
 -- the entry at hand is in range
 ranged : (c : tie.In-loop Inv-loop μ-loop) → InRange (getD (c .before .before .before .before .contents .result .es) (c .before .loop .i) zeros)
 ranged c =
+    let at-contents = c .before .before .before .before in
+    let st = at-contents .before .before in
     let lp = c .before .loop in
-    let r = c .before .before .before .before .contents .result in
-    range (c .before .before .before .before .before .before .args .text .now) (r .es) (r .count) (lp .i) (lp .line) (lp .p) (c .loop-test .taken) (omega arith) (lp .inv .all)
+    let r = at-contents .contents .result in
+    range (st .args .text .now) (r .es) (r .count) (lp .i) (lp .line) (lp .p) (c .loop-test .taken) (omega arith) (lp .inv .all)
 
 -- its body was read: what is left to print is its text, and what is left then
 turned : (c : tie.Then2 Inv-loop μ-loop) →
@@ -61,17 +63,23 @@ turned : (c : tie.Then2 Inv-loop μ-loop) →
     ≡ surveyText (surveyOf e (take (e .rows * e .cols) m)) ++ left t (r .es) (r .count) (lp .i + 1) (c .before .body .result .line) (c .before .body .result .at))
     × (length m ≡ 2304)
 turned c =
-    let lp = c .before .before .before .before .before .loop in
-    let r = c .before .before .before .before .before .before .before .before .contents .result in
+    let at-loop-test = c .before .before .before .before in
+    let lp = at-loop-test .before in
+    let at-contents = lp .before .before .before in
+    let st = at-contents .before .before in
+    let lp = lp .loop in
+    let r = at-contents .contents .result in
     let by = c .before .body in
-    turn-got (c .before .before .before .before .before .before .before .before .before .before .args .text .now) (r .es) (r .count) (lp .i) (lp .line) (lp .p) (c .before .before .before .before .loop-test .taken) (omega arith) (lp .inv .all)
+    turn-got (st .args .text .now) (r .es) (r .count) (lp .i) (lp .line) (lp .p) (at-loop-test .loop-test .taken) (omega arith) (lp .inv .all)
     (lp .m) (by .last .1 .1 .1 .1 .1 .0) (by .result) (lp .inv .m-length) (getD (r .es) (lp .i) zeros) refl (by .ensures .0) (c .if2 .taken)
 
 returns : tie.Need-returns Inv-loop μ-loop
 returns c =
-    let h = c .before .before .before .before .contents in
+    let at-contents = c .before .before .before .before in
+    let st = at-contents .before .before in
+    let h = at-contents .contents in
     let w = c .put-refusal .ensures in
-    (rw (begin-bad (c .before .before .before .before .before .before .args .text .now) (h .result) (h .ensures .0) (c .before .before .if1 .taken)) (w .0), omega (arith, w .1))
+    (rw (begin-bad (st .args .text .now) (h .result) (h .ensures .0) (c .before .before .if1 .taken)) (w .0), omega (arith, w .1))
 
 loop-holds : tie.Need-loop-holds Inv-loop μ-loop
 loop-holds c =
@@ -100,21 +108,28 @@ body-requires c κs =
 
 put-survey-requires : tie.Need-put-survey-requires Inv-loop μ-loop
 put-survey-requires c κs =
-    let lp = c .before .before .before .before .before .before .before .loop in
-    (ranged (c .before .before .before .before .before .before), turned (c .before .before) .1, omega (arith, lp .inv .q-most, lp .inv .count-most, c .before .before .before .before .before .before .loop-test .taken))
+    let at-loop-test = c .before .before .before .before .before .before in
+    let lp = at-loop-test .before in
+    let lp = lp .loop in
+    (ranged (c .before .before .before .before .before .before), turned (c .before .before) .1, omega (arith, lp .inv .q-most, lp .inv .count-most, at-loop-test .loop-test .taken))
 
 loop-again : tie.Need-loop-again Inv-loop μ-loop
 loop-again c =
-    let lp = c .before .before .before .before .before .before .before .before .before .loop in
-    let r = c .before .before .before .before .before .before .before .before .before .before .before .before .contents .result in
+    let at-body = c .before .before .before .before .before in
+    let at-loop-test = at-body .before .before .before in
+    let lp = at-loop-test .before in
+    let at-contents = lp .before .before .before in
+    let st = at-contents .before .before in
+    let lp = lp .loop in
+    let r = at-contents .contents .result in
     let tn = turned (c .before .before .before .before) in
-    let by = c .before .before .before .before .before .body in
+    let by = at-body .body in
     let ps = c .before .put-survey .ensures in
     let e = getD (r .es) (lp .i) zeros in
     let s = surveyText (surveyOf e (take (e .rows * e .cols) (by .last .1 .1 .1 .1 .1 .0))) in
-    let l = left (c .before .before .before .before .before .before .before .before .before .before .before .before .before .before .args .text .now) (r .es) (r .count) (lp .i + 1) (by .result .line) (by .result .at) in
+    let l = left (st .args .text .now) (r .es) (r .count) (lp .i + 1) (by .result .line) (by .result .at) in
     record {
-      i-most = omega (arith, c .before .before .before .before .before .before .before .before .loop-test .taken);
+      i-most = omega (arith, at-loop-test .loop-test .taken);
       count-most = lp .inv .count-most;
       es-length = lp .inv .es-length;
       p-in = by .ensures .1;
@@ -138,11 +153,15 @@ put-refusal-requires-2 c κs =
 
 returns-2 : tie.Need-returns-2 Inv-loop μ-loop
 returns-2 c =
-    let lp = c .before .before .before .before .before .before .before .loop in
-    let r = c .before .before .before .before .before .before .before .before .before .before .contents .result in
+    let at-loop-test = c .before .before .before .before .before .before in
+    let lp = at-loop-test .before in
+    let at-contents = lp .before .before .before in
+    let st = at-contents .before .before in
+    let lp = lp .loop in
+    let r = at-contents .contents .result in
     let by = c .before .before .before .body in
     let w = c .put-refusal2 .ensures in
-    let e = turn-bad (c .before .before .before .before .before .before .before .before .before .before .before .before .args .text .now) (r .es) (r .count) (lp .i) (lp .line) (lp .p) (c .before .before .before .before .before .before .loop-test .taken) (omega arith) (lp .inv .all)
+    let e = turn-bad (st .args .text .now) (r .es) (r .count) (lp .i) (lp .line) (lp .p) (at-loop-test .loop-test .taken) (omega arith) (lp .inv .all)
     (lp .m) (by .last .1 .1 .1 .1 .1 .0) (by .result) (lp .inv .m-length) (getD (r .es) (lp .i) zeros) refl (by .ensures .0) (c .before .before .if2 .left) in
     (finished _ _ _ _ _ _ _ _ _ _ _ _ _ (lp .inv) e (w .0), omega (arith, w .1, lp .inv .q-most, lp .inv .i-most, lp .inv .count-most))
 
@@ -153,17 +172,22 @@ put-refusal-requires-3 c κs =
 
 returns-3 : tie.Need-returns-3 Inv-loop μ-loop
 returns-3 c =
-    let lp = c .before .before .before .before .loop in
-    let r = c .before .before .before .before .before .before .before .contents .result in
+    let lp = c .before .before .before .before in
+    let at-contents = lp .before .before .before in
+    let st = at-contents .before .before in
+    let lp = lp .loop in
+    let r = at-contents .contents .result in
     let w = c .put-refusal3 .ensures in
-    let e = done-extra (c .before .before .before .before .before .before .before .before .before .args .text .now) (r .es) (r .count) (lp .i) (lp .line) (lp .p) (omega arith) (omega arith) (c .before .before .if3 .taken) in
+    let e = done-extra (st .args .text .now) (r .es) (r .count) (lp .i) (lp .line) (lp .p) (omega arith) (omega arith) (c .before .before .if3 .taken) in
     (finished _ _ _ _ _ _ _ _ _ _ _ _ _ (lp .inv) e (w .0), omega (arith, w .1, lp .inv .q-most, lp .inv .i-most, lp .inv .count-most))
 
 returns-4 : tie.Need-returns-4 Inv-loop μ-loop
 returns-4 c =
+    let at-contents = c .before .before .before .before .before in
+    let st = at-contents .before .before in
     let lp = c .before .before .loop in
-    let r = c .before .before .before .before .before .contents .result in
-    let e = done-whole (c .before .before .before .before .before .before .before .args .text .now) (r .es) (r .count) (lp .i) (lp .line) (lp .p) (omega arith) (omega arith) (omega arith) in
+    let r = at-contents .contents .result in
+    let e = done-whole (st .args .text .now) (r .es) (r .count) (lp .i) (lp .line) (lp .p) (omega arith) (omega arith) (omega arith) in
     let w : Written (lp .out) (lp .q) [] (lp .out) (lp .q) = record { stored = refl; ends = omega arith } in
     (finished _ _ _ _ _ _ _ _ _ _ _ _ _ (lp .inv) e w, omega (arith, lp .inv .q-most, lp .inv .i-most, lp .inv .count-most))
 

@@ -32,8 +32,9 @@ ones-requires c κs = (omega arith, c .before .before .before .zeros .ensures)
 
 returns-4 : tie.Need-returns-4
 returns-4 c =
+    let at-if3 = c .before .before .before .before .before .before .before .before in
     let st = c .before .before .before .before .before .before .before .before .before .before .before .before in
-    fill-done (st .args .n) (st .args .a .now) _ record { some = omega arith; few = omega arith; whole = c .before .before .before .before .before .before .before .before .if3 .left } (c .before .before .ones .ensures)
+    fill-done (st .args .n) (st .args .a .now) _ record { some = omega arith; few = omega arith; whole = at-if3 .if3 .left } (c .before .before .ones .ensures)
 
 pub identity-flat-spec : {M : Type 1} → statement M
 identity-flat-spec = tie.close (tie.spec returns returns-2 mul-if3 returns-3 (λ c. search needs) (λ c κs. search needs) ones-requires (λ c. search needs) returns-4)

@@ -20,8 +20,9 @@ loop-holds c = (omega arith, omega arith, refl)
 
 returns : tie.Need-returns Inv-loop μ-loop
 returns c =
+    let lp = c .before .before .before .before in
     let st = c .before .before .before .before .before .before in
-    let lp = c .before .before .before .before .loop in
+    let lp = lp .loop in
     let e = value-stop (st .args .base) (lp .v) (st .args .l .now) (lp .i) (c .before .before .before .loop-test .taken) (rw (← c .before .worth .ensures) (c .if1 .taken)) in
     rw (← lp .inv .2, e)
 

@@ -40,8 +40,9 @@ loop-holds c =
 returns : tie.Need-returns Inv-loop μ-loop
 unfolding placed
 returns c =
+    let st = c .before .before .before .before .before in
     let lp = c .before .before .before .loop in
-    (sym (body-none _ _ _ _ _ _ _ _ _ (c .before .find .ensures .0) (c .before .before .loop-test .taken) (c .before .before .before .before .before .pre .2) (c .if1 .taken)) ∙ lp .inv .3, omega arith, omega arith, omega arith)
+    (sym (body-none _ _ _ _ _ _ _ _ _ (c .before .find .ensures .0) (c .before .before .loop-test .taken) (st .pre .2) (c .if1 .taken)) ∙ lp .inv .3, omega arith, omega arith, omega arith)
 
 row-line-requires : tie.Need-row-line-requires Inv-loop μ-loop
 row-line-requires c κs =
@@ -58,21 +59,29 @@ add-k-2 c =
 loop-again : tie.Need-loop-again Inv-loop μ-loop
 unfolding when
 loop-again c =
-    let ar = c .before .before .before .before .before .before .before .before .before .args in
-    let lp = c .before .before .before .before .before .before .before .loop in
-    let h = c .before .before .before .before .before .before .loop-test .taken in
+    let at-find = c .before .before .before .before .before in
+    let at-loop-test = at-find .before in
+    let lp = at-loop-test .before in
+    let st = lp .before .before in
+    let ar = st .args in
+    let lp = lp .loop in
+    let h = at-loop-test .loop-test .taken in
     let g = inside (c .before .before .before .before) in (
       omega arith,
       omega (arith, g),
       omega (arith, room (ar .rows) (lp .j) (ar .c + 1) h),
-      sym (body-next _ _ _ _ _ _ _ _ _ (c .before .before .before .before .before .find .ensures .0) h (c .before .before .before .before .before .before .before .before .before .pre .2) g _ (taken _ _ _ (c .if2 .taken) (c .before .row-line .ensures))) ∙ lp .inv .3,
+      sym (body-next _ _ _ _ _ _ _ _ _ (at-find .find .ensures .0) h (st .pre .2) g _ (taken _ _ _ (c .if2 .taken) (c .before .row-line .ensures))) ∙ lp .inv .3,
     )
 
 returns-2 : tie.Need-returns-2 Inv-loop μ-loop
 unfolding placed when
 returns-2 c =
-    let lp = c .before .before .before .before .before .before .before .loop in (
-      sym (body-bad _ _ _ _ _ _ _ _ _ (c .before .before .before .before .before .find .ensures .0) (c .before .before .before .before .before .before .loop-test .taken) (c .before .before .before .before .before .before .before .before .before .pre .2) (inside (c .before .before .before .before)) (left _ _ _ (c .if2 .left) (c .before .row-line .ensures))) ∙ lp .inv .3,
+    let at-find = c .before .before .before .before .before in
+    let at-loop-test = at-find .before in
+    let lp = at-loop-test .before in
+    let st = lp .before .before in
+    let lp = lp .loop in (
+      sym (body-bad _ _ _ _ _ _ _ _ _ (at-find .find .ensures .0) (at-loop-test .loop-test .taken) (st .pre .2) (inside (c .before .before .before .before)) (left _ _ _ (c .if2 .left) (c .before .row-line .ensures))) ∙ lp .inv .3,
       omega arith,
       omega arith,
       omega arith,

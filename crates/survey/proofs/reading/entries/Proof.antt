@@ -29,24 +29,33 @@ loop-holds c =
 
 returns : tie.Need-returns Inv-loop μ-loop
 returns c =
-    let lp = c .before .before .before .before .loop in
+    let lp = c .before .before .before .before in
+    let st = lp .before .before in
+    let lp = lp .loop in
     let r = c .malformed .ensures in
     let e = contents-none _ _ _ _ _ _ (c .before .before .find .ensures .0) (c .before .before .before .loop-test .taken) (c .before .if1 .taken) in
-    (headed-bad (c .malformed .result) (c .before .before .before .before .before .before .args .text .now) (r .0) ∙ rw (r .2) (sym e ∙ lp .inv .3), omega arith, omega arith, omega arith, omega arith, r .3)
+    (headed-bad (c .malformed .result) (st .args .text .now) (r .0) ∙ rw (r .2) (sym e ∙ lp .inv .3), omega arith, omega arith, omega arith, omega arith, r .3)
 
 returns-2 : tie.Need-returns-2 Inv-loop μ-loop
 returns-2 c =
-    let lp = c .before .before .before .before .before .before .before .before .loop in
+    let at-find = c .before .before .before .before .before .before in
+    let at-loop-test = at-find .before in
+    let lp = at-loop-test .before in
+    let st = lp .before .before in
+    let lp = lp .loop in
     let r = c .malformed2 .ensures in
-    let e = contents-bad _ _ _ _ _ _ (c .before .before .before .before .before .before .find .ensures .0) (c .before .before .before .before .before .before .before .loop-test .taken) (inside (c .before .before .before .before .before)) _ (c .before .before .before .entry-line .ensures) (c .before .if2 .taken) in
-    (headed-bad (c .malformed2 .result) (c .before .before .before .before .before .before .before .before .before .before .args .text .now) (r .0) ∙ rw (r .2) (sym e ∙ lp .inv .3), omega arith, omega arith, omega arith, omega arith, r .3)
+    let e = contents-bad _ _ _ _ _ _ (at-find .find .ensures .0) (at-loop-test .loop-test .taken) (inside (c .before .before .before .before .before)) _ (c .before .before .before .entry-line .ensures) (c .before .if2 .taken) in
+    (headed-bad (c .malformed2 .result) (st .args .text .now) (r .0) ∙ rw (r .2) (sym e ∙ lp .inv .3), omega arith, omega arith, omega arith, omega arith, r .3)
 
 loop-again : tie.Need-loop-again Inv-loop μ-loop
 loop-again c =
-    let lp = c .before .before .before .before .before .before .before .loop in
+    let at-find = c .before .before .before .before .before in
+    let at-loop-test = at-find .before in
+    let lp = at-loop-test .before in
+    let lp = lp .loop in
     let g = inside (c .before .before .before .before) in
     let n : lp .i < length (lp .es) = omega arith in
-    let e = contents-next _ _ _ _ _ _ (c .before .before .before .before .before .find .ensures .0) (c .before .before .before .before .before .before .loop-test .taken) g _ (c .before .before .entry-line .ensures) (c .if2 .left) n in
+    let e = contents-next _ _ _ _ _ _ (at-find .find .ensures .0) (at-loop-test .loop-test .taken) g _ (c .before .before .entry-line .ensures) (c .if2 .left) n in
     (omega arith, omega (arith, g), simp length-set (lp .inv .2), sym e ∙ lp .inv .3)
 
 returns-3 : tie.Need-returns-3 Inv-loop μ-loop

@@ -37,37 +37,49 @@ returns-3 c =
 
 returns-4 : tie.Need-returns-4
 returns-4 c =
+    let at-whole = c .before .before .before .before in
     let e2 = c .before .before .before .before .before .before in
     let e1 = e2 .before .before in
     let f1 = e1 .before .find .ensures .0 in
     let f2 = e2 .before .find2 .ensures .0 in
-    entry-rows _ _ _ f1 (first e1) _ f2 (second e2) _ (c .before .before .before .before .whole .ensures) (c .before .before .before .if3 .left) _ (c .before .whole2 .ensures) (c .if4 .taken)
+    entry-rows _ _ _ f1 (first e1) _ f2 (second e2) _ (at-whole .whole .ensures) (c .before .before .before .if3 .left) _ (c .before .whole2 .ensures) (c .if4 .taken)
 
 returns-5 : tie.Need-returns-5
 returns-5 c =
+    let at-whole2 = c .before .before .before .before in
+    let at-if3 = at-whole2 .before .before in
+    let at-whole = at-if3 .before in
     let e2 = c .before .before .before .before .before .before .before .before .before in
     let e1 = e2 .before .before in
     let f1 = e1 .before .find .ensures .0 in
     let f2 = e2 .before .find2 .ensures .0 in
-    entry-cols _ _ _ f1 (first e1) _ f2 (second e2) _ (c .before .before .before .before .before .before .before .whole .ensures) (c .before .before .before .before .before .before .if3 .left) _ (c .before .before .before .before .whole2 .ensures) (c .before .before .before .if4 .left)
+    entry-cols _ _ _ f1 (first e1) _ f2 (second e2) _ (at-whole .whole .ensures) (at-if3 .if3 .left) _ (at-whole2 .whole2 .ensures) (c .before .before .before .if4 .left)
     _ (c .before .whole3 .ensures) (c .if5 .taken)
 
 returns-6 : tie.Need-returns-6
 returns-6 c =
+    let at-if4 = c .before .before .before .before .before in
+    let at-whole2 = at-if4 .before in
+    let at-if3 = at-whole2 .before .before in
+    let at-whole = at-if3 .before in
     let e2 = c .before .before .before .before .before .before .before .before .before .before .before in
     let e1 = e2 .before .before in
     let f1 = e1 .before .find .ensures .0 in
     let f2 = e2 .before .find2 .ensures .0 in
-    entry-twice _ _ _ f1 (first e1) _ f2 (second e2) _ (c .before .before .before .before .before .before .before .before .before .whole .ensures) (c .before .before .before .before .before .before .before .before .if3 .left) _ (c .before .before .before .before .before .before .whole2 .ensures) (c .before .before .before .before .before .if4 .left)
+    entry-twice _ _ _ f1 (first e1) _ f2 (second e2) _ (at-whole .whole .ensures) (at-if3 .if3 .left) _ (at-whole2 .whole2 .ensures) (at-if4 .if4 .left)
     _ (c .before .before .before .whole3 .ensures) (c .before .before .if5 .left) (sym (c .before .named .ensures) ∙ c .if6 .taken)
 
 returns-7 : tie.Need-returns-7
 returns-7 c =
+    let at-if4 = c .before .before .before .before .before in
+    let at-whole2 = at-if4 .before in
+    let at-if3 = at-whole2 .before .before in
+    let at-whole = at-if3 .before in
     let e2 = c .before .before .before .before .before .before .before .before .before .before .before in
     let e1 = e2 .before .before in
     let f1 = e1 .before .find .ensures .0 in
     let f2 = e2 .before .find2 .ensures .0 in
-    entry-new _ _ _ f1 (first e1) _ f2 (second e2) _ (c .before .before .before .before .before .before .before .before .before .whole .ensures) (c .before .before .before .before .before .before .before .before .if3 .left) _ (c .before .before .before .before .before .before .whole2 .ensures) (c .before .before .before .before .before .if4 .left)
+    entry-new _ _ _ f1 (first e1) _ f2 (second e2) _ (at-whole .whole .ensures) (at-if3 .if3 .left) _ (at-whole2 .whole2 .ensures) (at-if4 .if4 .left)
     _ (c .before .before .before .whole3 .ensures) (c .before .before .if5 .left) (sym (c .before .named .ensures) ∙ c .if6 .left)
 
 pub entry-line-spec : {M : Type 1} → statement M

@@ -47,29 +47,35 @@ returns-2 c =
 
 loop-again : tie.Need-loop-again Inv-loop μ-loop
 loop-again c =
+    let at-pattern = c .before .before .before .before in
     let fd = c .before .before .before .before .before .before .before in
     let lp = fd .before .before .loop in
     let h = inside (c .before .before .before .before .before .before) in (
       omega arith,
       omega (arith, h),
-      rw (c .float-of .ensures) (sym (row-next _ _ _ _ _ _ _ (fd .find .ensures .0) (fd .before .loop-test .taken) _ h (is-some _ _ (sym (c .before .before .b .given .1) ∙ c .before .before .before .before .pattern .ensures)))
+      rw (c .float-of .ensures) (sym (row-next _ _ _ _ _ _ _ (fd .find .ensures .0) (fd .before .loop-test .taken) _ h (is-some _ _ (sym (c .before .before .b .given .1) ∙ at-pattern .pattern .ensures)))
           ∙ lp .inv .2),
     )
 
 returns-3 : tie.Need-returns-3 Inv-loop μ-loop
 unfolding when
 returns-3 c =
-    let lp = c .before .before .before .before .before .before .before .loop in
-    let ar = c .before .before .before .before .before .before .before .before .before .args in
+    let at-pattern2 = c .before .before .before .before in
+    let lp = at-pattern2 .before .before .before in
+    let st = lp .before .before in
+    let lp = lp .loop in
+    let ar = st .args in
     let e : lp .k ≡ ar .c = omega arith in
-    rw (c .float-of2 .ensures) (sym (row-last (ar .l .now) (ar .c) (lp .k) (lp .p) (ar .at) (lp .m) e _ (is-some _ _ (sym (c .before .before .b2 .given .1) ∙ c .before .before .before .before .pattern2 .ensures)))
+    rw (c .float-of2 .ensures) (sym (row-last (ar .l .now) (ar .c) (lp .k) (lp .p) (ar .at) (lp .m) e _ (is-some _ _ (sym (c .before .before .b2 .given .1) ∙ at-pattern2 .pattern2 .ensures)))
     ∙ lp .inv .2 ∙ row-stored _ _ _ _)
 
 returns-4 : tie.Need-returns-4 Inv-loop μ-loop
 unfolding when
 returns-4 c =
-    let lp = c .before .before .before .before .before .loop in
-    let ar = c .before .before .before .before .before .before .before .args in
+    let lp = c .before .before .before .before .before in
+    let st = lp .before .before in
+    let lp = lp .loop in
+    let ar = st .args in
     let e : lp .k ≡ ar .c = omega arith in
     sym (row-last-bad (ar .l .now) (ar .c) (lp .k) (lp .p) (ar .at) (lp .m) e (is-none _ (sym (c .enum-told2 .given .1) ∙ c .before .before .pattern2 .ensures)))
     ∙ lp .inv .2 ∙ row-stored _ _ _ _

@@ -25,19 +25,25 @@ loop-holds c =
 
 loop-again : tie.Need-loop-again Inv-loop μ-loop
 loop-again c =
-    let ar = c .before .before .before .before .before .before .before .before .args in
-    let lp = c .before .before .before .before .before .before .loop in
+    let at-loop-test = c .before .before .before .before .before in
+    let lp = at-loop-test .before in
+    let st = lp .before .before in
+    let ar = st .args in
+    let lp = lp .loop in
     let pd = c .before .put-digits .ensures in
     let po = c .before .before .pattern-of .ensures in
-    (omega arith, omega arith, step-more _ _ _ _ _ _ _ _ (c .before .before .before .before .before .loop-test .taken) (c .before .before .before .before .before .before .before .before .pre .0) pd po (c .if1 .taken) ∙ lp .inv .2)
+    (omega arith, omega arith, step-more _ _ _ _ _ _ _ _ (at-loop-test .loop-test .taken) (st .pre .0) pd po (c .if1 .taken) ∙ lp .inv .2)
 
 loop-again-2 : tie.Need-loop-again-2 Inv-loop μ-loop
 loop-again-2 c =
-    let ar = c .before .before .before .before .before .before .before .before .args in
-    let lp = c .before .before .before .before .before .before .loop in
+    let at-loop-test = c .before .before .before .before .before in
+    let lp = at-loop-test .before in
+    let st = lp .before .before in
+    let ar = st .args in
+    let lp = lp .loop in
     let pd = c .before .put-digits .ensures in
     let po = c .before .before .pattern-of .ensures in
-    (omega arith, omega arith, step-last _ _ _ _ _ _ _ _ (c .before .before .before .before .before .loop-test .taken) (c .before .before .before .before .before .before .before .before .pre .0) pd po (c .if1 .left) ∙ lp .inv .2)
+    (omega arith, omega arith, step-last _ _ _ _ _ _ _ _ (at-loop-test .loop-test .taken) (st .pre .0) pd po (c .if1 .left) ∙ lp .inv .2)
 
 returns : tie.Need-returns Inv-loop μ-loop
 returns c =

@@ -36,14 +36,15 @@ add-from c =
 
 loop-again : tie.Need-loop-again Inv-loop μ-loop
 loop-again c =
-    let ar = c .before .before .before .before .before .args in
+    let st = c .before .before .before .before .before in
+    let ar = st .args in
     let lp = c .before .before .before .loop in
     let t = times-next (lp .j) (ar .c) in
     let pr = c .put-row .ensures in (
       omega arith,
       omega (arith, t),
       omega (arith, t, pr .1),
-      rows-step (ar .r) (ar .c) (lp .j) (lp .from) (ar .m .now) (lp .out) (c .put-row .last .0) (lp .q) (c .put-row .result) (c .before .before .loop-test .taken) (c .before .before .before .before .before .pre .0) (lp .inv .1) (pr .0) (pr .1)
+      rows-step (ar .r) (ar .c) (lp .j) (lp .from) (ar .m .now) (lp .out) (c .put-row .last .0) (lp .q) (c .put-row .result) (c .before .before .loop-test .taken) (st .pre .0) (lp .inv .1) (pr .0) (pr .1)
           ∙ lp .inv .3,
     )
 

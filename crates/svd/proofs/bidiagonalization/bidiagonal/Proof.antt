@@ -6,7 +6,11 @@ use Rattle.svd.proofs.bidiagonalization.bidiagonal.Statement.{statement
 use Rattle.svd.proofs.bidiagonalization.bidiagonal.Tie as tie
 
 returns : tie.Need-returns
-returns c = c .before .before .before .before .before .before .zero-first .ensures ∙ bidiagonal-other _ _ _ _ _ _ _ (c .before .before .before .before .before .before .before .before .before .before .before .before .before .before .before .before .before .before .zero-places .ensures) (c .before .before .before .before .before .before .before .before .before .before .if1 .taken)
+returns c =
+    let at-zero-first = c .before .before .before .before .before .before in
+    let at-if1 = at-zero-first .before .before .before .before in
+    let at-zero-places = at-if1 .before .before .before .before .before .before .before .before in
+    at-zero-first .zero-first .ensures ∙ bidiagonal-other _ _ _ _ _ _ _ (at-zero-places .zero-places .ensures) (at-if1 .if1 .taken)
 
 returns-2 : tie.Need-returns-2
 returns-2 c = bidiagonal-square _ _ _ _ _ _ _ (c .before .before .before .before .before .before .before .before .zero-places .ensures) (c .if1 .left)

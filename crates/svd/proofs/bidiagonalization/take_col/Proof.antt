@@ -23,19 +23,30 @@ params-requires : tie.Need-params-requires
 params-requires c κs = (omega arith, omega arith, omega arith, c .before .before .before .before .before .before .before .before .before .before .before .before .pre .4)
 
 mul-head : tie.Need-mul-head
-mul-head c = record { fits = omega (arith, row-below (c .before .before .before .before .before .before .before .before .before .before .before .before .before .before .before .before .args .stride) (c .before .before .before .before .before .before .before .before .before .before .before .before .before .before .before .before .pre .0)) }
+mul-head c =
+    let st = c .before .before .before .before .before .before .before .before .before .before .before .before .before .before .before .before in
+    record { fits = omega (arith, row-below (st .args .stride) (st .pre .0)) }
 
 add-head : tie.Need-add-head
-add-head c = omega (arith, row-below (c .before .before .before .before .before .before .before .before .before .before .before .before .before .before .before .before .args .stride) (c .before .before .before .before .before .before .before .before .before .before .before .before .before .before .before .before .pre .0))
+add-head c =
+    let st = c .before .before .before .before .before .before .before .before .before .before .before .before .before .before .before .before in
+    omega (arith, row-below (st .args .stride) (st .pre .0))
 
 mul-b : tie.Need-mul-b
-mul-b c = omega (arith, row-below (c .before .before .before .before .before .before .before .before .before .before .before .before .before .before .before .before .args .stride) (c .before .before .before .before .before .before .before .before .before .before .before .before .before .before .before .before .pre .0))
+mul-b c =
+    let st = c .before .before .before .before .before .before .before .before .before .before .before .before .before .before .before .before in
+    omega (arith, row-below (st .args .stride) (st .pre .0))
 
 slice-write-b : tie.Need-slice-write-b
-slice-write-b c = omega (arith, row-below (c .before .before .before .before .before .before .before .before .before .before .before .before .before .before .before .before .args .stride) (c .before .before .before .before .before .before .before .before .before .before .before .before .before .before .before .before .pre .0))
+slice-write-b c =
+    let st = c .before .before .before .before .before .before .before .before .before .before .before .before .before .before .before .before in
+    omega (arith, row-below (st .args .stride) (st .pre .0))
 
 returns : tie.Need-returns
-returns c = record { entries = _; made = rw (c .before .before .before .before .before .before .before .before .before .before .before .copy-col .ensures) at (c .before .before .before .params .ensures); table = rw (c .before .before .before .before .before .before .before .before .clear-col .ensures) refl }
+returns c =
+    let at-clear-col = c .before .before .before .before .before .before .before .before in
+    let at-copy-col = at-clear-col .before .before .before in
+    record { entries = _; made = rw (at-copy-col .copy-col .ensures) at (c .before .before .before .params .ensures); table = rw (at-clear-col .clear-col .ensures) refl }
 
 pub take-col-spec : {M : Type 1} → statement M
 take-col-spec = tie.close (tie.spec (λ c. search needs) (λ c. search needs) copy-col-requires clear-col-requires (λ c. search needs) params-requires mul-head add-head (λ c. search needs) mul-b slice-write-b (λ c. search needs) (λ c. search needs) returns)

@@ -14,7 +14,9 @@ take-col-requires : tie.Need-take-col-requires
 take-col-requires c κs = rw plusZero-64 (omega arith, omega arith, omega arith, omega arith, refl)
 
 returns : tie.Need-returns
-returns c = (c .before .before .before .before .take-col .ensures .table ∙ column-still _ _ _ _ _ _ _ _ _ (c .before .before .before .before .take-col .ensures .made) (rw plusZero-64 at (c .if1 .taken)), factor-still _ _ _ _ _ _ _ (c .before .before .before .before .take-col .ensures .made) (rw plusZero-64 at (c .if1 .taken)))
+returns c =
+    let at-take-col = c .before .before .before .before in
+    (at-take-col .take-col .ensures .table ∙ column-still _ _ _ _ _ _ _ _ _ (at-take-col .take-col .ensures .made) (rw plusZero-64 at (c .if1 .taken)), factor-still _ _ _ _ _ _ _ (at-take-col .take-col .ensures .made) (rw plusZero-64 at (c .if1 .taken)))
 
 lapply-householder-requires : tie.Need-lapply-householder-requires
 lapply-householder-requires c κs =
@@ -25,7 +27,11 @@ rapply-householder-requires : tie.Need-rapply-householder-requires
 rapply-householder-requires c κs = (omega arith, omega arith, omega arith, omega arith, omega arith)
 
 returns-2 : tie.Need-returns-2
-returns-2 c = (c .before .before .before .before .before .before .before .lapply-householder .ensures ∙ rw (c .before .before .before .before .before .before .before .before .before .before .before .before .before .before .before .take-col .ensures .table) (column-moved _ _ _ _ _ _ _ _ _ (c .before .before .before .before .before .before .before .before .before .before .before .before .before .before .before .take-col .ensures .made) (rw plusZero-64 at (c .before .before .before .before .before .before .before .before .before .before .before .if1 .left))), c .before .before .rapply-householder .ensures ∙ factor-moved _ _ _ _ _ _ _ (c .before .before .before .before .before .before .before .before .before .before .before .before .before .before .before .take-col .ensures .made) (rw plusZero-64 at (c .before .before .before .before .before .before .before .before .before .before .before .if1 .left)))
+returns-2 c =
+    let at-lapply-householder = c .before .before .before .before .before .before .before in
+    let at-if1 = at-lapply-householder .before .before .before .before in
+    let at-take-col = at-if1 .before .before .before .before in
+    (at-lapply-householder .lapply-householder .ensures ∙ rw (at-take-col .take-col .ensures .table) (column-moved _ _ _ _ _ _ _ _ _ (at-take-col .take-col .ensures .made) (rw plusZero-64 at (at-if1 .if1 .left))), c .before .before .rapply-householder .ensures ∙ factor-moved _ _ _ _ _ _ _ (at-take-col .take-col .ensures .made) (rw plusZero-64 at (at-if1 .if1 .left)))
 
 pub zero-col-spec : {M : Type 1} → statement M
 zero-col-spec = tie.close (tie.spec (λ c. search needs) (λ c. search needs) take-col-requires (λ c. search needs) returns (λ c. search needs) (λ c. search needs) (λ c. search needs) lapply-householder-requires (λ c. search needs) rapply-householder-requires (λ c. search needs) (λ c. search needs) returns-2)

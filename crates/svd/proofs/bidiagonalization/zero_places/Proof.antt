@@ -25,7 +25,11 @@ loop-holds c = (omega arith, c .before .before .before .pre .2, c .before .befor
 
 loop-again : tie.Need-loop-again Inv-loop μ-loop
 unfolding placesZeroed
-loop-again c = (omega arith, search needs, search needs, search needs, omega arith, omega arith, omega arith, rw (c .before .before .before .before .before .before .zero-then .ensures, c .before .before .before .before .before .before .before .before .before .before .before .before .before .before .before .before .zero-first .ensures) (turns-more 0 _ _ _ _ zero-le (c .before .before .before .before .before .before .before .before .before .before .before .before .before .before .before .before .before .before .before .before .before .loop .inv .7)))
+loop-again c =
+    let at-zero-then = c .before .before .before .before .before .before in
+    let at-zero-first = at-zero-then .before .before .before .before .before .before .before .before .before .before in
+    let lp = at-zero-first .before .before .before .before .before in
+    (omega arith, search needs, search needs, search needs, omega arith, omega arith, omega arith, rw (at-zero-then .zero-then .ensures, at-zero-first .zero-first .ensures) (turns-more 0 _ _ _ _ zero-le (lp .loop .inv .7)))
 
 returns : tie.Need-returns Inv-loop μ-loop
 returns c = cc (le-antisymm (c .before .loop .inv .0) (c .loop-test .left))

@@ -17,10 +17,14 @@ add-at : tie.Need-add-at
 add-at c = omega (arith, row-below (c .before .before .before .args .z .stride) (c .before .before .before .pre .0))
 
 params-requires : tie.Need-params-requires
-params-requires c κs = rw plusZero-64 (omega arith, omega (arith, row-below (c .before .before .before .before .before .args .z .stride) (c .before .before .before .before .before .pre .0)), omega arith, refl)
+params-requires c κs =
+    let st = c .before .before .before .before .before in
+    rw plusZero-64 (omega arith, omega (arith, row-below (st .args .z .stride) (st .pre .0)), omega arith, refl)
 
 returns : tie.Need-returns
-returns c = (row-still _ _ _ _ _ _ _ _ _ (c .before .before .before .before .params .ensures) (rw plusZero-64 at (c .if1 .taken)), factor-still _ _ _ _ _ _ _ (c .before .before .before .before .params .ensures) (rw plusZero-64 at (c .if1 .taken)))
+returns c =
+    let at-params = c .before .before .before .before in
+    (row-still _ _ _ _ _ _ _ _ _ (at-params .params .ensures) (rw plusZero-64 at (c .if1 .taken)), factor-still _ _ _ _ _ _ _ (at-params .params .ensures) (rw plusZero-64 at (c .if1 .taken)))
 
 rapply-householder-requires : tie.Need-rapply-householder-requires
 rapply-householder-requires c κs =
@@ -28,7 +32,11 @@ rapply-householder-requires c κs =
     (omega arith, omega arith, omega arith, omega arith, omega (arith, rows-left (st .args .i + 1) (st .args .z .rows) (st .args .z .stride) (omega arith)))
 
 returns-2 : tie.Need-returns-2
-returns-2 c = (c .before .before .before .before .before .before .before .rapply-householder .ensures ∙ row-moved _ _ _ _ _ _ _ _ _ (c .before .before .before .before .before .before .before .before .before .before .before .before .before .before .before .params .ensures) (rw plusZero-64 at (c .before .before .before .before .before .before .before .before .before .before .before .if1 .left)), c .before .before .rapply-householder2 .ensures ∙ factor-moved _ _ _ _ _ _ _ (c .before .before .before .before .before .before .before .before .before .before .before .before .before .before .before .params .ensures) (rw plusZero-64 at (c .before .before .before .before .before .before .before .before .before .before .before .if1 .left)))
+returns-2 c =
+    let at-rapply-householder = c .before .before .before .before .before .before .before in
+    let at-if1 = at-rapply-householder .before .before .before .before in
+    let at-params = at-if1 .before .before .before .before in
+    (at-rapply-householder .rapply-householder .ensures ∙ row-moved _ _ _ _ _ _ _ _ _ (at-params .params .ensures) (rw plusZero-64 at (at-if1 .if1 .left)), c .before .before .rapply-householder2 .ensures ∙ factor-moved _ _ _ _ _ _ _ (at-params .params .ensures) (rw plusZero-64 at (at-if1 .if1 .left)))
 
 pub zero-row-spec : {M : Type 1} → statement M
 zero-row-spec = tie.close (tie.spec (λ c. search needs) mul-at add-at (λ c. search needs) params-requires (λ c. search needs) returns (λ c. search needs) (λ c. search needs) (λ c. search needs) rapply-householder-requires (λ c. search needs) (λ c κs. search needs) (λ c. search needs) (λ c. search needs) returns-2)

@@ -25,7 +25,10 @@ loop-holds c = (omega arith, c .before .before .before .pre .2, c .before .befor
 
 loop-again : tie.Need-loop-again Inv-loop μ-loop
 unfolding steps
-loop-again c = (omega arith, search needs, search needs, search needs, omega arith, omega arith, omega arith, rw (c .before .before .before .before .before .before .step .ensures) (turns-more 0 _ _ _ _ zero-le (c .before .before .before .before .before .before .before .before .before .before .before .loop .inv .7)))
+loop-again c =
+    let at-step = c .before .before .before .before .before .before in
+    let lp = at-step .before .before .before .before .before in
+    (omega arith, search needs, search needs, search needs, omega arith, omega arith, omega arith, rw (at-step .step .ensures) (turns-more 0 _ _ _ _ zero-le (lp .loop .inv .7)))
 
 returns : tie.Need-returns Inv-loop μ-loop
 returns c = cc (le-antisymm (c .before .loop .inv .0) (c .loop-test .left))

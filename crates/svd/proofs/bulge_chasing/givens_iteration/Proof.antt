@@ -10,18 +10,26 @@ use Rattle.svd.proofs.bulge_chasing.givens_iteration.Statement.{stateme
 use Rattle.svd.proofs.bulge_chasing.givens_iteration.Tie as tie
 
 first-rotation-requires : tie.Need-first-rotation-requires
-first-rotation-requires c κs = (omega arith, omega arith, omega arith, omega arith, omega (arith, mul-le-mul-right (c .before .before .before .before .args .z .stride) (c .before .before .before .before .pre .0)), c .before .before .before .before .pre .5, c .before .before .before .before .pre .6)
+first-rotation-requires c κs =
+    let st = c .before .before .before .before in
+    (omega arith, omega arith, omega arith, omega arith, omega (arith, mul-le-mul-right (st .args .z .stride) (st .pre .0)), st .pre .5, st .pre .6)
 
 push-requires : tie.Need-push-requires
 push-requires c κs =
+    let at-chase = c .before .before .before .before .before .before .before .before .before in
+    let at-turn = at-chase .before .before .before .before .before .before .before .before .before .before in
     let st = c .before .before .before .before .before .before .before .before .before .before .before .before .before .before .before .before .before .before .before .before .before .before .before .before .before .before .before .before in
-    let s = onward (turned-kept binary64 (sizes (st .args .z)) _ _ _ _ _ _ _ (c .before .before .before .before .before .before .before .before .before .before .before .before .before .before .before .before .before .before .before .turn .ensures)) (steps-kept binary64 (sizes (st .args .z)) _ _ _ _ (c .before .before .before .before .before .before .before .before .before .chase .ensures)) in
+    let s = onward (turned-kept binary64 (sizes (st .args .z)) _ _ _ _ _ _ _ (at-turn .turn .ensures)) (steps-kept binary64 (sizes (st .args .z)) _ _ _ _ (at-chase .chase .ensures)) in
     (omega arith, omega (arith, st .pre .0), omega (arith, st .pre .1), omega (arith, st .pre .0), omega (arith, st .pre .1), roomy-kept (sizes (st .args .z)) s (st .pre .2), u-kept (sizes (st .args .z)) s _ _ (st .pre .3), v-kept (sizes (st .args .z)) s _ _ (st .pre .4))
 
 returns : tie.Need-returns
 returns c =
+    let at-push = c .before .before .before .before .before .before in
+    let at-chase = at-push .before .before .before .before .before .before .before .before .before .before in
+    let at-turn = at-chase .before .before .before .before .before .before .before .before .before .before in
+    let at-first-rotation = at-turn .before .before .before .before in
     let st = c .before .before .before .before .before .before .before .before .before .before .before .before .before .before .before .before .before .before .before .before .before .before .before .before .before .before .before .before .before .before .before .before .before .before .before in
-    swept-is binary64 (sizes (st .args .z)) (st .args .upper) (st .args .interior) _ _ _ _ _ (c .before .before .before .before .before .before .before .before .before .before .before .before .before .before .before .before .before .before .before .before .before .before .before .before .before .before .before .before .before .before .first-rotation .ensures) (c .before .before .before .before .before .before .before .before .before .before .before .before .before .before .before .before .before .before .before .before .before .before .before .before .before .before .turn .ensures) (c .before .before .before .before .before .before .before .before .before .before .before .before .before .before .before .before .chase .ensures) (c .before .before .before .before .before .before .push .ensures)
+    swept-is binary64 (sizes (st .args .z)) (st .args .upper) (st .args .interior) _ _ _ _ _ (at-first-rotation .first-rotation .ensures) (at-turn .turn .ensures) (at-chase .chase .ensures) (at-push .push .ensures)
 
 pub givens-iteration-spec : {M : Type 1} → statement M
 givens-iteration-spec = tie.close (tie.spec first-rotation-requires (λ c κs. search needs) (λ c κs. search needs) push-requires (λ c. search needs) (λ c. search needs) (λ c. search needs) returns)

@@ -18,7 +18,12 @@ along-requires-2 c κs =
     (omega (arith, row-in (st .args .i + 1) (st .args .z .rows) (st .args .z .stride) (omega arith)), omega (arith, row-in (st .args .j) (st .args .z .rows) (st .args .z .stride) (omega arith)))
 
 returns : tie.Need-returns
-returns c = rw (c .before .before .before .before .before .before .turn .ensures, c .before .before .before .before .before .before .before .before .before .before .implicit-givens-rotation .ensures, c .before .before .before .before .before .before .before .before .before .before .before .before .before .along .ensures, c .before .before .before .before .before .before .before .before .before .before .before .along2 .ensures) refl
+returns c =
+    let at-turn = c .before .before .before .before .before .before in
+    let at-implicit-givens-rotation = at-turn .before .before .before .before in
+    let at-along2 = at-implicit-givens-rotation .before in
+    let at-along = at-along2 .before .before in
+    rw (at-turn .turn .ensures, at-implicit-givens-rotation .implicit-givens-rotation .ensures, at-along .along .ensures, at-along2 .along2 .ensures) refl
 
 pub push-spec : {M : Type 1} → statement M
 push-spec = tie.close (tie.spec along-requires (λ c. search needs) along-requires-2 (λ c κs. search needs) (λ c κs. search needs) (λ c. search needs) (λ c. search needs) (λ c. search needs) returns)

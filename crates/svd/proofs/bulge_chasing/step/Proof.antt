@@ -8,8 +8,10 @@ use Rattle.svd.proofs.bulge_chasing.step.Tie as tie
 
 returns : tie.Need-returns
 returns c =
+    let at-push2 = c .before .before .before .before .before .before in
+    let at-push = at-push2 .before .before .before .before .before .before .before .before .before .before in
     let st = c .before .before .before .before .before .before .before .before .before .before .before .before .before .before .before .before .before .before .before .before .before .before .before in
-    stepped-is binary64 (sizes (st .args .z)) (st .args .upper) (st .args .k) _ _ _ (c .before .before .before .before .before .before .before .before .before .before .before .before .before .before .before .before .push .ensures) (c .before .before .before .before .before .before .push2 .ensures)
+    stepped-is binary64 (sizes (st .args .z)) (st .args .upper) (st .args .k) _ _ _ (at-push .push .ensures) (at-push2 .push2 .ensures)
 
 pub step-spec : {M : Type 1} → statement M
 step-spec = tie.close (tie.spec (λ c κs. search needs) (λ c. search needs) (λ c κs. search needs) (λ c. search needs) (λ c. search needs) (λ c. search needs) returns)

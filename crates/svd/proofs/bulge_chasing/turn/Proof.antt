@@ -8,10 +8,14 @@ use Rattle.svd.proofs.bulge_chasing.turn.Statement.{statement}
 use Rattle.svd.proofs.bulge_chasing.turn.Tie as tie
 
 apply-g-left-requires : tie.Need-apply-g-left-requires
-apply-g-left-requires c κs = (omega arith, omega arith, omega (arith, mul-le-mul-right (c .before .before .before .before .before .args .z .stride) (c .before .before .before .before .before .pre .0)))
+apply-g-left-requires c κs =
+    let st = c .before .before .before .before .before in
+    (omega arith, omega arith, omega (arith, mul-le-mul-right (st .args .z .stride) (st .pre .0)))
 
 apply-gt-right-requires-2 : tie.Need-apply-gt-right-requires-2
-apply-gt-right-requires-2 c κs = (omega arith, omega arith, omega (arith, mul-le-mul-right (c .before .before .before .before .before .args .z .stride) (c .before .before .before .before .before .pre .2)))
+apply-gt-right-requires-2 c κs =
+    let st = c .before .before .before .before .before in
+    (omega arith, omega arith, omega (arith, mul-le-mul-right (st .args .z .stride) (st .pre .2)))
 
 returns : tie.Need-returns
 unfolding turned

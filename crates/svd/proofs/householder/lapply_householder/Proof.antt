@@ -10,7 +10,10 @@ sum-columns-requires c κs = rw plusZero-64 (search needs)
 
 returns : tie.Need-returns
 unfolding reflectedLeft
-returns c = rw (c .before .before .rows-less .ensures, c .before .before .before .before .before .before .scale-all .ensures, c .before .before .before .before .before .before .before .before .before .sum-columns .ensures)
+returns c =
+    let at-scale-all = c .before .before .before .before .before .before in
+    let at-sum-columns = at-scale-all .before .before .before in
+    rw (c .before .before .rows-less .ensures, at-scale-all .scale-all .ensures, at-sum-columns .sum-columns .ensures)
 
 pub lapply-householder-spec : {M : Type 1} → statement M
 lapply-householder-spec = tie.close (tie.spec (λ c. search needs) sum-columns-requires (λ c. search needs) (λ c κs. search needs) (λ c. search needs) (λ c κs. search needs) (λ c. search needs) returns)

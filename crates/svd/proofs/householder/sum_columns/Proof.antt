@@ -55,7 +55,9 @@ add-row-requires c κs =
 
 loop-again : tie.Need-loop-again Inv-loop μ-loop
 unfolding rowsAdded
-loop-again c = (omega arith, omega arith, omega arith, rw (c .before .before .add-row .ensures) (turns-more 1 _ _ _ _ (c .before .before .before .before .before .before .loop .inv .0) (c .before .before .before .before .before .before .loop .inv .3)))
+loop-again c =
+    let lp = c .before .before .before .before .before .before in
+    (omega arith, omega arith, omega arith, rw (c .before .before .add-row .ensures) (turns-more 1 _ _ _ _ (lp .loop .inv .0) (lp .loop .inv .3)))
 
 returns : tie.Need-returns Inv-loop μ-loop
 unfolding columnSums
