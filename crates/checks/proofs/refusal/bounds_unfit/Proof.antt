@@ -6,7 +6,9 @@ use Rattle.checks.proofs.refusal.bounds_unfit.Statement.{statement}
 use Rattle.checks.proofs.refusal.bounds_unfit.Tie as tie
 
 returns : tie.Need-returns
-returns c = rw (← c .before .before .before .before .bound-fit .ensures, ← c .before .before .bound-fit2 .ensures, ← c .floor-fit .ensures, c .before .before .before .if1 .taken, c .before .if2 .taken) refl
+returns c =
+    let at-bound-fit = c .before .before .before .before in
+    rw (← at-bound-fit .bound-fit .ensures, ← c .before .before .bound-fit2 .ensures, ← c .floor-fit .ensures, c .before .before .before .if1 .taken, c .before .if2 .taken) refl
 
 returns-2 : tie.Need-returns-2
 returns-2 c = rw (← c .before .before .before .bound-fit .ensures, ← c .before .bound-fit2 .ensures, c .before .before .if1 .taken, c .if2 .left) refl

@@ -38,28 +38,46 @@ loop-holds : tie.Need-loop-holds Inv-loop μ-loop Inv-search μ-search
 loop-holds c = (omega arith, c .before .search .inv .1, λ k h. c .before .search .inv .2 k (omega arith))
 
 mul-at : tie.Need-mul-at Inv-loop μ-loop Inv-search μ-search
-mul-at c = record { fits = omega (arith, row-in (c .before .before .before .search .i) (c .before .before .before .before .before .args .rows) (c .before .before .before .before .before .args .cols) (omega arith)) }
+mul-at c =
+    let st = c .before .before .before .before .before in
+    record { fits = omega (arith, row-in (c .before .before .before .search .i) (st .args .rows) (st .args .cols) (omega arith)) }
 
 add-at : tie.Need-add-at Inv-loop μ-loop Inv-search μ-search
-add-at c = omega (arith, row-in (c .before .before .before .search .i) (c .before .before .before .before .before .args .rows) (c .before .before .before .before .before .args .cols) (omega arith))
+add-at c =
+    let st = c .before .before .before .before .before in
+    omega (arith, row-in (c .before .before .before .search .i) (st .args .rows) (st .args .cols) (omega arith))
 
 mul-is-finite : tie.Need-mul-is-finite Inv-loop μ-loop Inv-search μ-search
-mul-is-finite c = omega (arith, row-in (c .before .before .before .search .i) (c .before .before .before .before .before .args .rows) (c .before .before .before .before .before .args .cols) (omega arith))
+mul-is-finite c =
+    let st = c .before .before .before .before .before in
+    omega (arith, row-in (c .before .before .before .search .i) (st .args .rows) (st .args .cols) (omega arith))
 
 shared-slice-read-is-finite : tie.Need-shared-slice-read-is-finite Inv-loop μ-loop Inv-search μ-search
-shared-slice-read-is-finite c = omega (arith, row-in (c .before .before .before .before .search .i) (c .before .before .before .before .before .before .args .rows) (c .before .before .before .before .before .before .args .cols) (omega arith))
+shared-slice-read-is-finite c =
+    let st = c .before .before .before .before .before .before in
+    omega (arith, row-in (c .before .before .before .before .search .i) (st .args .rows) (st .args .cols) (omega arith))
 
 loop-again : tie.Need-loop-again Inv-loop μ-loop Inv-search μ-search
-loop-again c = (omega arith, c .before .before .before .before .loop .inv .1, λ k h. below-more _ _ (c .before .before .before .before .loop .inv .2) (sym (c .before .is-finite .ensures) ∙ not-false _ (c .if1 .left)) k (omega arith))
+loop-again c =
+    let lp = c .before .before .before .before in
+    (omega arith, lp .loop .inv .1, λ k h. below-more _ _ (lp .loop .inv .2) (sym (c .before .is-finite .ensures) ∙ not-false _ (c .if1 .left)) k (omega arith))
 
 search-again : tie.Need-search-again Inv-loop μ-loop Inv-search μ-search
-search-again c = (omega arith, c .before .loop .inv .1, λ k h. c .before .loop .inv .2 k (omega (arith, row-next (c .before .before .before .search .i) (c .before .before .before .before .before .args .cols))))
+search-again c =
+    let st = c .before .before .before .before .before in
+    (omega arith, c .before .loop .inv .1, λ k h. c .before .loop .inv .2 k (omega (arith, row-next (c .before .before .before .search .i) (st .args .cols))))
 
 returns : tie.Need-returns Inv-loop μ-loop Inv-search μ-search
-returns c = let e = le-antisymm (c .before .search .inv .0) (c .search-test .left) in c .before .search .inv .1 ∙ sym (c .before .before .before .pre .0) ∙ sym (firstBad-none _ (λ k h. c .before .search .inv .2 k (omega (arith, ap (λ (x : ℕ). x * c .before .before .before .args .cols) e))))
+returns c =
+    let e = le-antisymm (c .before .search .inv .0) (c .search-test .left) in
+    c .before .search .inv .1 ∙ sym (c .before .before .before .pre .0) ∙ sym (firstBad-none _ (λ k h. c .before .search .inv .2 k (omega (arith, ap (λ (x : ℕ). x * c .before .before .before .args .cols) e))))
 
 returns-2 : tie.Need-returns-2 Inv-loop μ-loop Inv-search μ-search
-returns-2 c = sym (firstBad-at _ _ (c .before .before .before .before .loop .inv .2) (omega (arith, row-in (c .before .before .before .before .before .before .search .i) (c .before .before .before .before .before .before .before .before .args .rows) (c .before .before .before .before .before .before .before .before .args .cols) (omega arith))) (sym (c .before .is-finite .ensures) ∙ not-true _ (c .if1 .taken)))
+returns-2 c =
+    let lp = c .before .before .before .before in
+    let at-search = lp .before .before in
+    let st = c .before .before .before .before .before .before .before .before in
+    sym (firstBad-at _ _ (lp .loop .inv .2) (omega (arith, row-in (at-search .search .i) (st .args .rows) (st .args .cols) (omega arith))) (sym (c .before .is-finite .ensures) ∙ not-true _ (c .if1 .taken)))
 
 pub first-bad-spec : {M : Type 1} → statement M
 first-bad-spec = tie.close (tie.spec Inv-loop μ-loop Inv-search μ-search mul-found search-holds loop-holds mul-at add-at mul-is-finite shared-slice-read-is-finite (λ c κs. search needs) (λ c. search needs) (λ c. search needs) loop-again (λ c. search needs) (λ c. search needs) search-again returns returns-2)

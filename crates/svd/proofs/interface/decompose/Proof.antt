@@ -10,10 +10,21 @@ use Rattle.svd.proofs.interface.decompose.Statement.{statement}
 use Rattle.svd.proofs.interface.decompose.Tie as tie
 
 decomp-givens-requires : tie.Need-decomp-givens-requires
-decomp-givens-requires c κs = let k = bidiagonal-kept binary64 (c .before .before .before .before .before .before .before .before .before .before .before .before .before .before .before .before .before .before .before .args .s .floor) (sizes (c .before .before .before .before .before .before .before .before .before .before .before .before .before .before .before .before .before .before .before .args .z)) _ _ _ _ (c .before .before .before .before .before .before .before .before .before .before .bidiagonal .ensures) in (roomy-kept (sizes (c .before .before .before .before .before .before .before .before .before .before .before .before .before .before .before .before .before .before .before .args .z)) k (c .before .before .before .before .before .before .before .before .before .before .before .before .before .before .before .before .before .before .before .pre .4), u-kept (sizes (c .before .before .before .before .before .before .before .before .before .before .before .before .before .before .before .before .before .before .before .args .z)) k _ _ (c .before .before .before .before .before .before .before .before .before .before .before .before .before .before .before .before .before .before .before .pre .5), v-kept (sizes (c .before .before .before .before .before .before .before .before .before .before .before .before .before .before .before .before .before .before .before .args .z)) k _ _ (c .before .before .before .before .before .before .before .before .before .before .before .before .before .before .before .before .before .before .before .pre .6), first-standing (sizes (c .before .before .before .before .before .before .before .before .before .before .before .before .before .before .before .before .before .before .before .args .z)) _ _ _ (c .before .before .before .before .before .before .before .before .before .before .before .before .before .before .smaller-size .ensures .2) (c .before .before .before .before .before .before .before .before .before .before .before .before .before .before .smaller-size .ensures .3) (c .before .before .before .new .ensures .0) (c .before .before .before .new .ensures .1))
+decomp-givens-requires c κs =
+    let at-bidiagonal = c .before .before .before .before .before .before .before .before .before .before in
+    let at-smaller-size = at-bidiagonal .before .before .before .before in
+    let st = c .before .before .before .before .before .before .before .before .before .before .before .before .before .before .before .before .before .before .before in
+    let k = bidiagonal-kept binary64 (st .args .s .floor) (sizes (st .args .z)) _ _ _ _ (at-bidiagonal .bidiagonal .ensures) in
+    (roomy-kept (sizes (st .args .z)) k (st .pre .4), u-kept (sizes (st .args .z)) k _ _ (st .pre .5), v-kept (sizes (st .args .z)) k _ _ (st .pre .6), first-standing (sizes (st .args .z)) _ _ _ (at-smaller-size .smaller-size .ensures .2) (at-smaller-size .smaller-size .ensures .3) (c .before .before .before .new .ensures .0) (c .before .before .before .new .ensures .1))
 
 returns : tie.Need-returns
-returns c = decomposed (sizes (c .before .before .before .before .before .before .before .before .before .before .before .before .before .before .before .before .before .before .before .before .before .before .before .before .before .before .args .z)) (settingsOf (c .before .before .before .before .before .before .before .before .before .before .before .before .before .before .before .before .before .before .before .before .before .before .before .before .before .before .args .s)) _ _ _ _ _ _ (c .before .before .before .before .before .before .before .before .before .before .before .before .before .before .before .before .before .before .before .before .before .smaller-size .ensures .0) (omega (arith, c .before .before .before .before .before .before .before .before .before .before .before .before .before .before .before .before .before .before .before .before .before .smaller-size .ensures .2, c .before .before .before .before .before .before .before .before .before .before .before .before .before .before .before .before .before .before .before .before .before .before .before .before .before .before .pre .4 .rows-few)) (c .before .before .before .before .before .before .before .before .before .before .before .before .before .before .before .before .before .before .before .before .before .before .before .before .before .before .pre .2) (c .before .before .before .before .before .before .before .before .before .before .before .before .before .before .before .before .before .before .before .before .before .before .before .before .before .before .pre .3) (c .before .before .before .before .before .before .before .before .before .before .before .before .before .before .before .before .before .bidiagonal .ensures) (c .before .before .before .before .before .before .before .before .before .before .new .ensures .0) (c .before .before .before .before .before .before .decomp-givens .ensures)
+returns c =
+    let at-decomp-givens = c .before .before .before .before .before .before in
+    let at-new = at-decomp-givens .before .before .before .before in
+    let at-bidiagonal = at-new .before .before .before .before .before .before .before in
+    let at-smaller-size = at-bidiagonal .before .before .before .before in
+    let st = c .before .before .before .before .before .before .before .before .before .before .before .before .before .before .before .before .before .before .before .before .before .before .before .before .before .before in
+    decomposed (sizes (st .args .z)) (settingsOf (st .args .s)) _ _ _ _ _ _ (at-smaller-size .smaller-size .ensures .0) (omega (arith, at-smaller-size .smaller-size .ensures .2, st .pre .4 .rows-few)) (st .pre .2) (st .pre .3) (at-bidiagonal .bidiagonal .ensures) (at-new .new .ensures .0) (at-decomp-givens .decomp-givens .ensures)
 
 pub decompose-spec : {M : Type 1} → statement M
 decompose-spec = tie.close (tie.spec (λ c κs. search needs) (λ c κs. search needs) (λ c κs. search needs) decomp-givens-requires (λ c. search needs) (λ c. search needs) (λ c. search needs) returns)

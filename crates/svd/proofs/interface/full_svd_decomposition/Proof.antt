@@ -10,13 +10,24 @@ use Rattle.svd.proofs.interface.full_svd_decomposition.Statement.{state
 use Rattle.svd.proofs.interface.full_svd_decomposition.Tie as tie
 
 returns : tie.Need-returns
-returns c = refused-call true (c .before .before .before .before .before .before .before .before .before .before .args .rows) (c .before .before .before .before .before .before .before .before .before .before .args .cols) (settingsOf (c .before .before .before .before .before .before .before .before .before .before .args .settings)) (work (c .before .before .before .before .before .before .before .before .before .before .args .b .now) (c .before .before .before .before .before .before .before .before .before .before .args .u .now) (c .before .before .before .before .before .before .before .before .before .before .args .v .now)) _ _ (c .before .before .before .first-refusal .ensures) (c .before .if1 .taken) (c .refused .ensures)
+returns c =
+    let st = c .before .before .before .before .before .before .before .before .before .before in
+    refused-call true (st .args .rows) (st .args .cols) (settingsOf (st .args .settings)) (work (st .args .b .now) (st .args .u .now) (st .args .v .now)) _ _ (c .before .before .before .first-refusal .ensures) (c .before .if1 .taken) (c .refused .ensures)
 
 decompose-requires : tie.Need-decompose-requires
-decompose-requires c κs = let f = call-fit true (c .before .before .before .before .before .before .before .before .before .before .before .before .args .rows) (c .before .before .before .before .before .before .before .before .before .before .before .before .args .cols) (settingsOf (c .before .before .before .before .before .before .before .before .before .before .before .before .args .settings)) (work (c .before .before .before .before .before .before .before .before .before .before .before .before .args .b .now) (c .before .before .before .before .before .before .before .before .before .before .before .before .args .u .now) (c .before .before .before .before .before .before .before .before .before .before .before .before .args .v .now)) _ (c .before .before .before .before .before .first-refusal .ensures) (c .before .before .before .if1 .left) in (f .rows-some, f .cols-some, f .limit-low, f .credit-low, fit-roomy true (c .before .before .before .before .before .before .before .before .before .before .before .before .args .rows) (c .before .before .before .before .before .before .before .before .before .before .before .before .args .cols) (settingsOf (c .before .before .before .before .before .before .before .before .before .before .before .before .args .settings)) (work (c .before .before .before .before .before .before .before .before .before .before .before .before .args .b .now) (c .before .before .before .before .before .before .before .before .before .before .before .before .args .u .now) (c .before .before .before .before .before .before .before .before .before .before .before .before .args .v .now)) f, lent-whole _ _ (f .rows-few) (f .u-length refl), lent-whole _ _ (f .cols-few) (f .v-length refl))
+decompose-requires c κs =
+    let at-first-refusal = c .before .before .before .before .before in
+    let st = c .before .before .before .before .before .before .before .before .before .before .before .before in
+    let f = call-fit true (st .args .rows) (st .args .cols) (settingsOf (st .args .settings)) (work (st .args .b .now) (st .args .u .now) (st .args .v .now)) _ (at-first-refusal .first-refusal .ensures) (c .before .before .before .if1 .left) in
+    (f .rows-some, f .cols-some, f .limit-low, f .credit-low, fit-roomy true (st .args .rows) (st .args .cols) (settingsOf (st .args .settings)) (work (st .args .b .now) (st .args .u .now) (st .args .v .now)) f, lent-whole _ _ (f .rows-few) (f .u-length refl), lent-whole _ _ (f .cols-few) (f .v-length refl))
 
 returns-2 : tie.Need-returns-2
-returns-2 c = accepted-call true (c .before .before .before .before .before .before .before .before .before .before .before .before .before .before .before .before .before .before .before .before .args .rows) (c .before .before .before .before .before .before .before .before .before .before .before .before .before .before .before .before .before .before .before .before .args .cols) (settingsOf (c .before .before .before .before .before .before .before .before .before .before .before .before .before .before .before .before .before .before .before .before .args .settings)) (work (c .before .before .before .before .before .before .before .before .before .before .before .before .before .before .before .before .before .before .before .before .args .b .now) (c .before .before .before .before .before .before .before .before .before .before .before .before .before .before .before .before .before .before .before .before .args .u .now) (c .before .before .before .before .before .before .before .before .before .before .before .before .before .before .before .before .before .before .before .before .args .v .now)) _ _ _ _ (c .before .before .before .before .before .before .before .before .before .before .before .before .before .first-refusal .ensures) (c .before .before .before .before .before .before .before .before .before .before .before .if1 .left) (c .accepted .ensures) (c .before .before .before .before .before .before .before .decompose .ensures)
+returns-2 c =
+    let at-decompose = c .before .before .before .before .before .before .before in
+    let at-if1 = at-decompose .before .before .before .before in
+    let at-first-refusal = at-if1 .before .before in
+    let st = c .before .before .before .before .before .before .before .before .before .before .before .before .before .before .before .before .before .before .before .before in
+    accepted-call true (st .args .rows) (st .args .cols) (settingsOf (st .args .settings)) (work (st .args .b .now) (st .args .u .now) (st .args .v .now)) _ _ _ _ (at-first-refusal .first-refusal .ensures) (at-if1 .if1 .left) (c .accepted .ensures) (at-decompose .decompose .ensures)
 
 pub full-svd-decomposition-spec : {M : Type 1} → statement M
 full-svd-decomposition-spec = tie.close (tie.spec (λ c κs. search needs) (λ c κs. search needs) (λ c. search needs) (λ c. search needs) (λ c. search needs) returns decompose-requires (λ c κs. search needs) (λ c. search needs) (λ c. search needs) (λ c. search needs) returns-2)

@@ -10,13 +10,24 @@ use Rattle.svd.proofs.interface.svd_decomposition.Statement.{statement}
 use Rattle.svd.proofs.interface.svd_decomposition.Tie as tie
 
 returns : tie.Need-returns
-returns c = refused-call false (c .before .before .before .before .before .before .before .before .args .rows) (c .before .before .before .before .before .before .before .before .args .cols) (settingsOf (c .before .before .before .before .before .before .before .before .args .settings)) (work (c .before .before .before .before .before .before .before .before .args .b .now) [] []) _ _ (c .before .before .before .first-refusal .ensures) (c .before .if1 .taken) (c .refused .ensures)
+returns c =
+    let st = c .before .before .before .before .before .before .before .before in
+    refused-call false (st .args .rows) (st .args .cols) (settingsOf (st .args .settings)) (work (st .args .b .now) [] []) _ _ (c .before .before .before .first-refusal .ensures) (c .before .if1 .taken) (c .refused .ensures)
 
 decompose-requires : tie.Need-decompose-requires
-decompose-requires c κs = let f = call-fit false (c .before .before .before .before .before .before .before .before .before .before .args .rows) (c .before .before .before .before .before .before .before .before .before .before .args .cols) (settingsOf (c .before .before .before .before .before .before .before .before .before .before .args .settings)) (work (c .before .before .before .before .before .before .before .before .before .before .args .b .now) [] []) _ (c .before .before .before .before .before .first-refusal .ensures) (c .before .before .before .if1 .left) in (f .rows-some, f .cols-some, f .limit-low, f .credit-low, fit-roomy false (c .before .before .before .before .before .before .before .before .before .before .args .rows) (c .before .before .before .before .before .before .before .before .before .before .args .cols) (settingsOf (c .before .before .before .before .before .before .before .before .before .before .args .settings)) (work (c .before .before .before .before .before .before .before .before .before .before .args .b .now) [] []) f, lent-none _ _, lent-none _ _)
+decompose-requires c κs =
+    let at-first-refusal = c .before .before .before .before .before in
+    let st = c .before .before .before .before .before .before .before .before .before .before in
+    let f = call-fit false (st .args .rows) (st .args .cols) (settingsOf (st .args .settings)) (work (st .args .b .now) [] []) _ (at-first-refusal .first-refusal .ensures) (c .before .before .before .if1 .left) in
+    (f .rows-some, f .cols-some, f .limit-low, f .credit-low, fit-roomy false (st .args .rows) (st .args .cols) (settingsOf (st .args .settings)) (work (st .args .b .now) [] []) f, lent-none _ _, lent-none _ _)
 
 returns-2 : tie.Need-returns-2
-returns-2 c = plain-call (c .before .before .before .before .before .before .before .before .before .before .before .before .before .before .before .before .args .rows) (c .before .before .before .before .before .before .before .before .before .before .before .before .before .before .before .before .args .cols) (settingsOf (c .before .before .before .before .before .before .before .before .before .before .before .before .before .before .before .before .args .settings)) _ (c .before .before .before .before .before .before .before .before .before .before .before .before .before .before .before .before .args .b .now) _ _ _ (accepted-call false (c .before .before .before .before .before .before .before .before .before .before .before .before .before .before .before .before .args .rows) (c .before .before .before .before .before .before .before .before .before .before .before .before .before .before .before .before .args .cols) (settingsOf (c .before .before .before .before .before .before .before .before .before .before .before .before .before .before .before .before .args .settings)) (work (c .before .before .before .before .before .before .before .before .before .before .before .before .before .before .before .before .args .b .now) [] []) _ _ _ _ (c .before .before .before .before .before .before .before .before .before .before .before .first-refusal .ensures) (c .before .before .before .before .before .before .before .before .before .if1 .left) (c .accepted .ensures) (c .before .before .before .before .before .decompose .ensures))
+returns-2 c =
+    let at-decompose = c .before .before .before .before .before in
+    let at-if1 = at-decompose .before .before .before .before in
+    let at-first-refusal = at-if1 .before .before in
+    let st = c .before .before .before .before .before .before .before .before .before .before .before .before .before .before .before .before in
+    plain-call (st .args .rows) (st .args .cols) (settingsOf (st .args .settings)) _ (st .args .b .now) _ _ _ (accepted-call false (st .args .rows) (st .args .cols) (settingsOf (st .args .settings)) (work (st .args .b .now) [] []) _ _ _ _ (at-first-refusal .first-refusal .ensures) (at-if1 .if1 .left) (c .accepted .ensures) (at-decompose .decompose .ensures))
 
 pub svd-decomposition-spec : {M : Type 1} → statement M
 svd-decomposition-spec = tie.close (tie.spec (λ c. search needs) (λ c. search needs) (λ c κs. search needs) (λ c κs. search needs) (λ c. search needs) returns (λ c. search needs) (λ c. search needs) decompose-requires (λ c κs. search needs) (λ c. search needs) returns-2)
