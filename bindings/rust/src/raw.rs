@@ -96,7 +96,8 @@ unsafe extern "C" {
 // The library asks for good pointers that do not overlap and checks all else itself. Rust's slices are
 // good for their lengths, and two that are borrowed at once, one of them mutably, never overlap.
 
-pub(crate) fn svd(m: &mut [f64], rows: usize, columns: usize, c: Choice) -> Answer {
+/// `merotunki_svd` on a slice.
+pub fn svd(m: &mut [f64], rows: usize, columns: usize, c: Choice) -> Answer {
     let mut a = Answer::default();
     let (limit, credit) = (c.limit as usize, c.credit as usize);
     // SAFETY: as above.
@@ -117,7 +118,8 @@ pub(crate) fn svd(m: &mut [f64], rows: usize, columns: usize, c: Choice) -> Answ
     a
 }
 
-pub(crate) fn full_svd(
+/// `merotunki_full_svd` on three slices.
+pub fn full_svd(
     m: &mut [f64],
     (u, v): (&mut [f64], &mut [f64]),
     rows: usize,
