@@ -124,8 +124,11 @@ def lend(numbers):
     return (ctypes.c_double * len(numbers))(*numbers), ctypes.c_size_t(len(numbers))
 
 
-def identity(size):
-    return [1.0 if i % (size + 1) == 0 else 0.0 for i in range(size * size)]
+def identity(loaded, size):
+    """The library's own identity of that many rows; a size that it refuses the split refuses too, with its number."""
+    lent = lend([0.0] * (size * size))
+    loaded.merotunki_identity(*lent, ctypes.c_size_t(size))
+    return lent
 
 
 def by_rows(lent, width):
@@ -136,7 +139,7 @@ def split(rows):
     """The accumulating call, default settings, U and V from the identity: answer, matrix, U and V, each by rows."""
     answer, m, n = Answer(), len(rows), len(rows[0])
     loaded, settings = library()
-    matrix, u, v = lend([x for row in rows for x in row]), lend(identity(m)), lend(identity(n))
+    matrix, u, v = lend([x for row in rows for x in row]), identity(loaded, m), identity(loaded, n)
     sizes = ctypes.c_size_t(m), ctypes.c_size_t(n)
     loaded.merotunki_full_svd(ctypes.byref(answer), *matrix, *u, *v, *sizes, *settings)
     return answer, by_rows(matrix, n), by_rows(u, m), by_rows(v, n)
