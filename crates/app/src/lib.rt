@@ -16,6 +16,7 @@ ghost use Rattle.method.specs.Root.{squareRoot};
 ghost use Rattle.method.specs.Work.{work};
 ghost use Rattle.method.specs.Defaults.{defaults};
 ghost use Rattle.method.specs.Outcome.{fullOutcome, plainOutcome, filled, fillOutcome};
+ghost use Rattle.checks.specs.Values.{settingsOf as settingsBeneath};
 ghost use Rattle.svd.specs.Values.{reportOf, wordOf};
 ghost use Rattle.app.specs.Values.{numbered, answerOf, answered, told, chosen, settingsOf};
 ghost use Rattle.app.specs.Row.{partOf};
@@ -76,6 +77,18 @@ fn tell(report: Report) -> Answer
     }
 }
 
+fn choose(limit: usize, credit: usize, tolerance: f64, absolute: f64, floor: f64) -> Settings
+    ensures { λ r. ⌜ settingsBeneath r ≡ chosen limit credit tolerance absolute floor ⌝ }
+{
+    Settings {
+        limit: limit,
+        credit: credit,
+        tolerance: tolerance,
+        absolute: absolute,
+        floor: floor,
+    }
+}
+
 // The split of the table alone.
 #[no_mangle]
 pub extern "C" fn merotunki_svd(
@@ -91,13 +104,7 @@ pub extern "C" fn merotunki_svd(
     ensures { λ r. ⌜ answered r (work (now (matrix .exit)) [] [])
         ≡ told (plainOutcome binary64 rows cols (chosen limit credit tolerance absolute floor) (now (matrix .entry))) ⌝ }
 {
-    let settings = Settings {
-        limit: limit,
-        credit: credit,
-        tolerance: tolerance,
-        absolute: absolute,
-        floor: floor,
-    };
+    let settings = choose(limit, credit, tolerance, absolute, floor);
     let report = svd_decomposition(matrix, rows, cols, settings);
     tell(report)
 }
@@ -120,13 +127,7 @@ pub extern "C" fn merotunki_full_svd(
         ≡ told (fullOutcome binary64 rows cols (chosen limit credit tolerance absolute floor)
         (work (now (matrix .entry)) (now (u .entry)) (now (v .entry)))) ⌝ }
 {
-    let settings = Settings {
-        limit: limit,
-        credit: credit,
-        tolerance: tolerance,
-        absolute: absolute,
-        floor: floor,
-    };
+    let settings = choose(limit, credit, tolerance, absolute, floor);
     let report = full_svd_decomposition(matrix, u, v, rows, cols, settings);
     tell(report)
 }
