@@ -32,10 +32,6 @@ onward p q = record { matrix = q .matrix ∙ p .matrix; u = q .u ∙ p .u; v = q
 
 -- ---- the bidiagonal form
 
-pub columnCopied-length : (stride i j n : ℕ) (a : List Float) → length (columnCopied stride i j n a) ≡ 48
-unfolding columnCopied
-columnCopied-length stride i j n a = turns-keep 0 _ (λ (l : List Float). length l ≡ 48) (λ k l e. simp length-set e) n blank refl
-
 pub columnCleared-length : (stride i j n : ℕ) (a : List Float) → length (columnCleared stride i j n a) ≡ length a
 unfolding columnCleared
 columnCleared-length stride i j n a = turns-keep 0 _ (λ (l : List Float). length l ≡ length a) (λ k l e. simp length-set e) n a refl

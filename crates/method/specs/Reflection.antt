@@ -198,21 +198,6 @@ module _ (f : Format) where
       go true e = rw (← reflection-small f floor at n v e) refl
       go false e = rw (← reflection-large f floor at n v _ _ _ _ _ _ _ refl e refl refl refl refl refl refl) (simp length-set (cleared-length at n v))
 
-  pub reflectionOf-vector : (floor : Float) (at n : ℕ) (v : List Float) → length (reflectionOf f floor at n v .vector) ≡ 48
-  reflectionOf-vector floor at n v = go (lt (largestOf v at n) floor) refl
-    where
-      go : (b : Bool) → lt (largestOf v at n) floor ≡ b → length (reflectionOf f floor at n v .vector) ≡ 48
-      go true e = rw (← reflection-small f floor at n v e) refl
-      go false e = rw (← reflection-large f floor at n v _ _ _ _ _ _ _ refl e refl refl refl refl refl refl) (simp (length-set, tailTimes-length, scaled-length))
-
-  pub rowAdded-length : (a : List Float) (x : Float) (off n : ℕ) (w : List Float) → length (rowAdded f a x off n w) ≡ length w
-  unfolding rowAdded
-  rowAdded-length a x off n w = stored 0 (λ l. l) (λ l w. add f (getD w l nan) (mul f x (getD a (off + l) nan))) n w
-
-  pub allTimes-length : (x : Float) (n : ℕ) (w : List Float) → length (allTimes f x n w) ≡ length w
-  unfolding allTimes
-  allTimes-length x n w = stored 0 (λ l. l) (λ l w. mul f (getD w l nan) x) n w
-
   pub rowLess-length : (p : List Float) (x : Float) (off n : ℕ) (a : List Float) → length (rowLess f p x off n a) ≡ length a
   unfolding rowLess tailLess
   rowLess-length p x off n a = stored 1 (λ k. off + k) (λ k a. sub f (getD a (off + k) nan) (mul f x (getD p k nan))) n _ ∙ simp length-set

@@ -23,11 +23,6 @@ module _ {S : Type 0} (lo : ℕ) (step : ℕ → S → S) where
   unfolding turns go
   turns-none s = let e : lo - lo ≡ 0 = omega arith in rw e
 
-  -- where the range is empty
-  pub turns-empty : (hi : ℕ) (s : S) → hi ≤ lo → s ≡ turns lo hi step s
-  unfolding turns go
-  turns-empty hi s h = let e : hi - lo ≡ 0 = omega arith in rw e
-
   -- a loop's turn: from the state that the invariant gives to the state after one more
   pub turns-more : (k : ℕ) (s₀ s : S) → lo ≤ k → s ≡ turns lo k step s₀ → step k s ≡ turns lo (k + 1) step s₀
   unfolding turns go
@@ -55,9 +50,6 @@ turns-alike R lo step step′ both hi s s′ r = walk (hi - lo)
     walk : (n : ℕ) → R (go lo step n s) (go lo step′ n s′)
     walk zero = r
     walk (suc n) = both (lo + n) (go lo step n s) (go lo step′ n s′) (walk n)
-
-pub turns-suc : {S : Type 0} (lo : ℕ) (step : ℕ → S → S) (n : ℕ) (s : S) → lo ≤ n → turns lo (suc n) step s ≡ step n (turns lo n step s)
-turns-suc lo step n s h = rw (← add-one) (sym (turns-more lo step n s (turns lo n step s) h refl))
 
 -- from 0 no side condition is left: a goal is rewritten by the bare name
 pub turns-next : {S : Type 0} (step : ℕ → S → S) (k : ℕ) (s : S) → turns 0 (k + 1) step s ≡ step k (turns 0 k step s)
