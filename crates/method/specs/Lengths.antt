@@ -3,6 +3,7 @@ use mathlib.Core.Path.{_≡_, refl, _∙_}
 use mathlib.Core.Bool.{Bool, true, false, not}
 use mathlib.Core.List.{List}
 use Prim.Native.Nat.{ℕ, _+_, _-_, _*_}
+use native.Mathlib.Omega.{arith}
 use lib.Dec.{eqb}
 use lib.ListN.{length, getD, set, length-set}
 use lib.Ieee.{Float, nan, Format, eq}
@@ -13,8 +14,7 @@ use Rattle.method.specs.Rotation.{Rotation, rowsTurned-length, columnsTu
 use Rattle.method.specs.Reflection.{Reflection, blank, reflectionOf, reflectionOf-entries, reflectedRight-length, reflectedLeft-length}
 use Rattle.method.specs.Bidiagonal.{columnReflection, columnCopied, columnCleared, headed, columnMatrix, rowMatrix, factorReflected, columnZeroed, rowZeroed, firstZeroed, thenZeroed, placesZeroed, bidiagonal, column-still, column-moved, row-still, row-moved, factor-still, factor-moved}
 use Rattle.method.specs.Chase.{turned, pushed, stepped, steps, swept, firstRotation}
-use Rattle.method.specs.Walk.{Walk, State, run}
-use Rattle.method.specs.Walk.Counts.{held-keeps}
+use Rattle.method.specs.Relation.Alone.{Holds, bidiagonal-holds, steps-holds, swept-holds, run-holds}
 use Rattle.method.specs.Outcome.{Settings, Outcome, walkedFrom, rulesOf, isUpper, card, accepted, outcome, refusalOf}
 
 -- the three lists of w have the lengths of w₀'s
@@ -76,70 +76,37 @@ module _ (f : Format) (floor : Float) (z : Shape) where
   unfolding rowZeroed
   rowZeroed-lengths i j w = record { matrix = rowMatrix-length f floor _ _ _ i j _; u = refl; v = factor-length f _ _ _ j _ }
 
-  pub first-lengths : (upper : Bool) (k : ℕ) (w : Work) → SameLengths w (firstZeroed f floor z upper k w)
-  first-lengths true k w = columnZeroed-lengths k k w
-  first-lengths false k w = rowZeroed-lengths k k w
-
-  pub then-lengths : (upper : Bool) (k : ℕ) (w : Work) → SameLengths w (thenZeroed f floor z upper k w)
-  then-lengths true k w = rowZeroed-lengths k (k + 1) w
-  then-lengths false k w = columnZeroed-lengths (k + 1) k w
-
-  pub places-lengths : (upper : Bool) (n : ℕ) (w : Work) → SameLengths w (placesZeroed f floor z upper n w)
-  unfolding placesZeroed
-  places-lengths upper n w =
-      turns-keep 0 _ (SameLengths w) (λ k s e. onward e (onward (first-lengths upper k s) (then-lengths upper k _))) n w (same w)
-
-  pub bidiagonal-lengths : (upper : Bool) (c : ℕ) (w : Work) → SameLengths w (bidiagonal f floor z upper c w)
-  unfolding bidiagonal
-  bidiagonal-lengths upper c w = go (eqb (z .rows) (z .cols)) refl
-    where
-      go : (t : Bool) → eqb (z .rows) (z .cols) ≡ t → SameLengths w (bidiagonal f floor z upper c w)
-      go true e = rw (e, bidiagonal) (places-lengths upper (c - 1) w)
-      go false e = rw (e, bidiagonal) (onward (places-lengths upper (c - 1) w) (first-lengths upper (c - 1) _))
-
-  -- the same of lists that are those of the bidiagonal form
-  pub bidiagonal-kept : (upper : Bool) (c : ℕ) (w w′ : Work) → w′ ≡ bidiagonal f floor z upper c w → SameLengths w w′
-  bidiagonal-kept upper c w w′ e = rw e (bidiagonal-lengths upper c w)
-
--- ---- a sweep
-
 module _ (f : Format) (z : Shape) where
   pub turned-lengths : (g : Rotation) (byRow : Bool) (i j n : ℕ) (w : Work) → SameLengths w (turned f z g byRow i j n w)
   unfolding turned
   turned-lengths g true i j n w = record { matrix = rowsTurned-length f g _ i j n _; u = columnsTurned-length f g _ i 0 _ _; v = refl }
   turned-lengths g false i j n w = record { matrix = columnsTurned-length f g _ i j n _; u = refl; v = columnsTurned-length f g _ i 0 _ _ }
 
-  pub steps-lengths : (upper : Bool) (n : ℕ) (w : Work) → SameLengths w (steps f z upper n w)
-  unfolding steps
-  steps-lengths upper n w =
-      turns-keep 0 (stepped f z upper) (SameLengths w)
-      (λ l s e. onward e (onward (turned-lengths _ upper l l 3 s) (turned-lengths _ (not upper) (l + 1) l 3 _)))
-      n
-      w
-      (same w)
+-- ---- the run, by the law of Relation
 
+lengths-hold : (f : Format) (floor : Float) (z : Shape) (c : ℕ) (w₀ : Work) → Holds f floor z c (SameLengths w₀)
+lengths-hold f floor z c w₀ =
+    record {
+      column = λ i j w h g r. onward r (columnZeroed-lengths f floor z i j w);
+      row = λ i j w h g r. onward r (rowZeroed-lengths f floor z i j w);
+      turn = λ t byRow i j n w h l r. onward r (turned-lengths f z t byRow i j n w);
+    }
+
+pub bidiagonal-kept : (f : Format) (floor : Float) (z : Shape) (upper : Bool) (c : ℕ) (w w′ : Work) → w′ ≡ bidiagonal f floor z upper c w → SameLengths w w′
+bidiagonal-kept f floor z upper c w w′ e = rw e (bidiagonal-holds (lengths-hold f floor z (c + 1) w) upper c w (omega arith) (same w))
+
+module _ (f : Format) (z : Shape) where
   pub swept-lengths : (upper : Bool) (k : ℕ) (w : Work) → SameLengths w (swept f z upper k w)
-  unfolding swept
-  swept-lengths upper k w =
-      onward (turned-lengths (firstRotation f (z .stride) upper k (w .matrix)) (not upper) 0 0 2 w)
-      (onward (steps-lengths upper k _) (turned-lengths _ upper k k 2 _))
+  swept-lengths upper k w = swept-holds (lengths-hold f plusZero z (k + 2) w) upper k w (omega arith) (same w)
 
-  -- the same of lists that are those of a turn, or of the steps
   pub turned-kept : (g : Rotation) (byRow : Bool) (i j n : ℕ) (w w′ : Work) → w′ ≡ turned f z g byRow i j n w → SameLengths w w′
-  turned-kept g byRow i j n w w′ e = rw e (turned-lengths g byRow i j n w)
+  turned-kept g byRow i j n w w′ e = rw e (turned-lengths f z g byRow i j n w)
 
   pub steps-kept : (upper : Bool) (n : ℕ) (w w′ : Work) → w′ ≡ steps f z upper n w → SameLengths w w′
-  steps-kept upper n w w′ e = rw e (steps-lengths upper n w)
+  steps-kept upper n w w′ e = rw e (steps-holds (lengths-hold f plusZero z (n + 2) w) upper n w (omega arith) (same w))
 
--- ---- a call
-
-pub walkedFrom-lengths : (f : Format) (z : Shape) (rows cols : ℕ) (s : Settings) (w : Work) → SameLengths w (walkedFrom f z rows cols s w .held)
-walkedFrom-lengths f z rows cols s w =
-    held-keeps (rulesOf f z (isUpper rows cols) (s .tolerance) (s .absolute)) (s .limit) (s .credit) (card rows cols) (SameLengths w)
-    (λ r d wide within e. onward e (swept-lengths f z (isUpper rows cols) (r - 2) d))
-    _
-    _
-    (bidiagonal-lengths f (s .floor) z (isUpper rows cols) (card rows cols) w)
+  pub walkedFrom-lengths : (rows cols : ℕ) (s : Settings) (w : Work) → SameLengths w (walkedFrom f z rows cols s w .held)
+  walkedFrom-lengths rows cols s w = run-holds rows cols s (lengths-hold f (s .floor) z (card rows cols + 1) w) (omega arith) (omega arith) w (same w)
 
 -- whatever the input, accepted or refused
 pub outcome-lengths : (f : Format) (kept : Bool) (rows cols : ℕ) (s : Settings) (w : Work) → SameLengths w (outcome f kept rows cols s w .held)

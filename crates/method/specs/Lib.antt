@@ -17,3 +17,5 @@ pub mod Outcome
 pub mod Defaults
 pub mod Cases
 pub mod Lengths
+pub mod Relation
+pub mod Same

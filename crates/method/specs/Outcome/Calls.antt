@@ -12,7 +12,8 @@ use Rattle.method.specs.Work.{Work, work}
 use Rattle.method.specs.Walk.Counts.{enough-most}
 use Rattle.method.specs.Outcome.{Settings, settled, refusalOf, outcome, plainOutcome, fullOutcome}
 use Rattle.method.specs.Outcome.Refusals.{numbers, fit, accepted-outcome}
-use Rattle.method.specs.Outcome.Reports.{accepted-true, accepted-agree, accepted-settled, atLimit, card-most}
+use Rattle.method.specs.Outcome.Reports.{accepted-true, accepted-settled, atLimit, card-most}
+use Rattle.method.specs.Same.{accepted-agree}
 
 false-true : false ≡ true → ⊥
 false-true p = let z : _≡_ {A = ℕ} 0 1 = cc in omega arith

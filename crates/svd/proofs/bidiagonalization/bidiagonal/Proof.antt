@@ -16,4 +16,4 @@ returns-2 : tie.Need-returns-2
 returns-2 c = bidiagonal-square _ _ _ _ _ _ _ (c .before .before .before .before .before .before .before .before .zero-places .ensures) (c .if1 .left)
 
 pub bidiagonal-spec : {M : Type 1} → statement M
-bidiagonal-spec = tie.close (tie.spec (λ c. search needs) (λ c κs. search needs) (λ c κs. search needs) (λ c. search needs) (λ c. search needs) (λ c. search needs) returns (λ c. search needs) (λ c. search needs) (λ c. search needs) returns-2)
+bidiagonal-spec = tie.close (tie.spec (λ c. search needs) (λ c κs. search needs) (λ c κs. search needs) (λ c. c .before .before .before .before .before .before .zero-first .kept .0 ∙ c .before .before .before .before .before .before .before .before .before .before .before .before .before .before .before .before .before .before .zero-places .kept .0) (λ c. c .before .before .before .before .before .before .zero-first .kept .1 .0 ∙ c .before .before .before .before .before .before .before .before .before .before .before .before .before .before .before .before .before .before .zero-places .kept .1 .0) (λ c. c .before .before .before .before .before .before .zero-first .kept .1 .1 .0 ∙ c .before .before .before .before .before .before .before .before .before .before .before .before .before .before .before .before .before .before .zero-places .kept .1 .1 .0) returns (λ c. c .before .before .before .before .before .before .before .before .zero-places .kept .0) (λ c. c .before .before .before .before .before .before .before .before .zero-places .kept .1 .0) (λ c. c .before .before .before .before .before .before .before .before .zero-places .kept .1 .1 .0) returns-2)

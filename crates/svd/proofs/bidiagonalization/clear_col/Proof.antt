@@ -6,7 +6,7 @@ use native.Mathlib.Omega.{arith}
 use native.Mathlib.Nat.{le-antisymm}
 use lib.ListN.{length, length-set}
 use Rattle.method.specs.Index.{row-fits}
-use Rattle.method.specs.Turns.{turns-none, turns-next}
+use Rattle.method.specs.Turns.{turns-none, turns-more}
 use Rattle.method.specs.Bidiagonal.{columnCleared}
 use Rattle.method.specs.Floats.{plusZero-64}
 use Rattle.svd.proofs.bidiagonalization.clear_col.Statement.{statement}
@@ -39,10 +39,10 @@ slice-write-b c = let st = c .before .before in omega (arith, row-fits (st .args
 
 loop-again : tie.Need-loop-again Inv-loop μ-loop
 unfolding columnCleared
-loop-again c = (omega arith, simp length-set (omega arith), rw (turns-next, plusZero-64) (cc))
+loop-again c = (omega arith, simp length-set (omega arith), rw (plusZero-64) (turns-more 0 _ _ _ _ zero-le (c .before .loop .inv .2)))
 
 returns : tie.Need-returns Inv-loop μ-loop
-returns c = cc (le-antisymm (c .before .loop .inv .0) (c .loop-test .left))
+returns c = rw (le-antisymm (c .before .loop .inv .0) (c .loop-test .left)) at (c .before .loop .inv .2)
 
 pub clear-col-spec : {M : Type 1} → statement M
 clear-col-spec = tie.close (tie.spec Inv-loop μ-loop loop-holds add-at mul-at add-at-2 mul-b slice-write-b (λ c. search needs) (λ c. search needs) loop-again (λ c. search needs) returns)

@@ -41,7 +41,7 @@ unfolding columnCopied
 loop-again c = (omega arith, simp length-set (omega arith), turns-more 0 _ _ _ _ zero-le (c .before .before .loop .inv .2))
 
 returns : tie.Need-returns Inv-loop μ-loop
-returns c = cc (le-antisymm (c .before .loop .inv .0) (c .loop-test .left))
+returns c = rw (le-antisymm (c .before .loop .inv .0) (c .loop-test .left)) at (c .before .loop .inv .2)
 
 pub copy-col-spec : {M : Type 1} → statement M
 copy-col-spec = tie.close (tie.spec Inv-loop μ-loop loop-holds add-at mul-at add-at-2 mul-w shared-slice-read-w (λ c. search needs) (λ c. search needs) (λ c. search needs) (λ c. search needs) loop-again (λ c. search needs) returns)

@@ -7,11 +7,15 @@ use Rattle.svd.proofs.bidiagonalization.zero_first.Tie as tie
 
 returns : tie.Need-returns
 unfolding columnZeroed
-returns c = rw (c .before .before .before .before .before .before .before .if1 .taken) (cc)
+returns c =
+    let at = c .before .before .before .before in
+    rw (c .before .before .before .before .before .before .before .if1 .taken, at .zero-col .ensures .0, at .zero-col .ensures .1) refl
 
 returns-2 : tie.Need-returns-2
 unfolding rowZeroed
-returns-2 c = rw (c .before .before .before .before .before .before .before .if1 .left) (cc)
+returns-2 c =
+    let at = c .before .before .before .before in
+    rw (c .before .before .before .before .before .before .before .if1 .left, at .zero-row .ensures .0, at .zero-row .ensures .1) refl
 
 pub zero-first-spec : {M : Type 1} → statement M
-zero-first-spec = tie.close (tie.spec (λ c κs. search needs) (λ c κs. search needs) (λ c. search needs) (λ c. search needs) returns (λ c. search needs) (λ c. search needs) returns-2)
+zero-first-spec = tie.close (tie.spec (λ c κs. search needs) (λ c κs. search needs) (λ c. c .before .before .before .before .zero-col .kept .0) (λ c. c .before .before .before .before .zero-col .kept .1 .0) returns (λ c. c .before .before .before .before .zero-row .kept .0) (λ c. c .before .before .before .before .zero-row .kept .1 .0) returns-2)

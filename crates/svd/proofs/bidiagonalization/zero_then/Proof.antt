@@ -7,11 +7,11 @@ use Rattle.svd.proofs.bidiagonalization.zero_then.Tie as tie
 
 returns : tie.Need-returns
 unfolding rowZeroed
-returns c = rw (c .before .before .before .before .before .before .before .if1 .taken) (cc)
+returns c = rw (c .before .before .before .before .before .before .before .if1 .taken, c .before .before .before .before .zero-row .ensures .0, c .before .before .before .before .zero-row .ensures .1) refl
 
 returns-2 : tie.Need-returns-2
 unfolding columnZeroed
-returns-2 c = rw (c .before .before .before .before .before .before .before .if1 .left) (cc)
+returns-2 c = rw (c .before .before .before .before .before .before .before .if1 .left, c .before .before .before .before .zero-col .ensures .0, c .before .before .before .before .zero-col .ensures .1) refl
 
 pub zero-then-spec : {M : Type 1} → statement M
 zero-then-spec = tie.close (tie.spec (λ c. search needs) (λ c κs. search needs) (λ c. search needs) (λ c κs. search needs) (λ c. search needs) (λ c. search needs) returns (λ c. search needs) (λ c. search needs) returns-2)

@@ -31,7 +31,7 @@ loop-again c =
     (omega arith, search needs, search needs, search needs, omega arith, omega arith, omega arith, rw (at-step .step .ensures) (turns-more 0 _ _ _ _ zero-le (lp .loop .inv .7)))
 
 returns : tie.Need-returns Inv-loop μ-loop
-returns c = cc (le-antisymm (c .before .loop .inv .0) (c .loop-test .left))
+returns c = rw (le-antisymm (c .before .loop .inv .0) (c .loop-test .left)) at (c .before .loop .inv .7)
 
 pub chase-spec : {M : Type 1} → statement M
 chase-spec = tie.close (tie.spec Inv-loop μ-loop loop-holds (λ c κs. search needs) (λ c. search needs) (λ c. search needs) loop-again (λ c. search needs) (λ c. search needs) (λ c. search needs) returns)

@@ -1,5 +1,6 @@
 -- The first turn, the steps and the last push. Assumes nothing.
 use borrow.Author.Needs.{needs}
+use mathlib.Core.Path.{_∙_}
 use native.Mathlib.Omega.{arith}
 use lib.Ieee.{binary64}
 use native.Mathlib.Nat.{mul-le-mul-right}
@@ -32,4 +33,4 @@ returns c =
     swept-is binary64 (sizes (st .args .z)) (st .args .upper) (st .args .interior) _ _ _ _ _ (at-first-rotation .first-rotation .ensures) (at-turn .turn .ensures) (at-chase .chase .ensures) (at-push .push .ensures)
 
 pub givens-iteration-spec : {M : Type 1} → statement M
-givens-iteration-spec = tie.close (tie.spec first-rotation-requires (λ c κs. search needs) (λ c κs. search needs) push-requires (λ c. search needs) (λ c. search needs) (λ c. search needs) returns)
+givens-iteration-spec = tie.close (tie.spec first-rotation-requires (λ c κs. search needs) (λ c κs. search needs) push-requires (λ c. c .before .before .before .before .before .before .push .kept .0 ∙ c .before .before .before .before .before .before .before .before .before .before .before .before .before .before .before .before .chase .kept .0 ∙ c .before .before .before .before .before .before .before .before .before .before .before .before .before .before .before .before .before .before .before .before .before .before .before .before .before .before .turn .kept .0) (λ c. c .before .before .before .before .before .before .push .kept .1 .0 ∙ c .before .before .before .before .before .before .before .before .before .before .before .before .before .before .before .before .chase .kept .1 .0 ∙ c .before .before .before .before .before .before .before .before .before .before .before .before .before .before .before .before .before .before .before .before .before .before .before .before .before .before .turn .kept .1 .0) (λ c. c .before .before .before .before .before .before .push .kept .1 .1 .0 ∙ c .before .before .before .before .before .before .before .before .before .before .before .before .before .before .before .before .chase .kept .1 .1 .0 ∙ c .before .before .before .before .before .before .before .before .before .before .before .before .before .before .before .before .before .before .before .before .before .before .before .before .before .before .turn .kept .1 .1 .0) returns)

@@ -1,5 +1,6 @@
 -- The two pushes, one after the other. Assumes nothing.
 use borrow.Author.Needs.{needs}
+use mathlib.Core.Path.{_∙_}
 use lib.Ieee.{binary64}
 use Rattle.svd.specs.Values.{sizes}
 use Rattle.method.specs.Chase.{stepped-is}
@@ -14,4 +15,4 @@ returns c =
     stepped-is binary64 (sizes (st .args .z)) (st .args .upper) (st .args .k) _ _ _ (at-push .push .ensures) (at-push2 .push2 .ensures)
 
 pub step-spec : {M : Type 1} → statement M
-step-spec = tie.close (tie.spec (λ c κs. search needs) (λ c. search needs) (λ c κs. search needs) (λ c. search needs) (λ c. search needs) (λ c. search needs) returns)
+step-spec = tie.close (tie.spec (λ c κs. search needs) (λ c. search needs) (λ c κs. search needs) (λ c. c .before .before .before .before .before .before .push2 .kept .0 ∙ c .before .before .before .before .before .before .before .before .before .before .before .before .before .before .before .before .push .kept .0) (λ c. c .before .before .before .before .before .before .push2 .kept .1 .0 ∙ c .before .before .before .before .before .before .before .before .before .before .before .before .before .before .before .before .push .kept .1 .0) (λ c. c .before .before .before .before .before .before .push2 .kept .1 .1 .0 ∙ c .before .before .before .before .before .before .before .before .before .before .before .before .before .before .before .before .push .kept .1 .1 .0) returns)

@@ -19,11 +19,11 @@ apply-gt-right-requires-2 c κs =
 
 returns : tie.Need-returns
 unfolding turned
-returns c = rw (c .before .before .before .before .before .before .before .before .if1 .taken) (cc)
+returns c = rw (c .before .before .before .before .before .before .before .before .if1 .taken, c .before .before .before .before .before .before .apply-g-left .ensures, c .before .before .apply-gt-right .ensures) refl
 
 returns-2 : tie.Need-returns-2
 unfolding turned
-returns-2 c = rw (c .before .before .before .before .before .before .before .before .if1 .left) (cc)
+returns-2 c = rw (c .before .before .before .before .before .before .before .before .if1 .left, c .before .before .before .before .before .before .apply-gt-right2 .ensures, c .before .before .apply-gt-right3 .ensures) refl
 
 pub turn-spec : {M : Type 1} → statement M
 turn-spec = tie.close (tie.spec apply-g-left-requires (λ c κs. search needs) apply-gt-right-requires-2 (λ c κs. search needs) (λ c. search needs) (λ c. search needs) returns (λ c. search needs) (λ c. search needs) returns-2)

@@ -8,7 +8,7 @@ use lib.ListN.{length, length-set}
 use lib.Ieee.{binary64}
 use Rattle.method.specs.Index.{row-next}
 use Rattle.svd.specs.Values.{rotation}
-use Rattle.method.specs.Turns.{turns-none, turns-next}
+use Rattle.method.specs.Turns.{turns-none, turns-more}
 use Rattle.method.specs.Rotation.{rowsTurned}
 use Rattle.svd.proofs.givens.apply_g_left.Statement.{statement}
 use Rattle.svd.proofs.givens.apply_g_left.Tie as tie
@@ -59,10 +59,10 @@ turn-pair-requires c κs =
 
 loop-again : tie.Need-loop-again Inv-loop μ-loop
 unfolding rowsTurned
-loop-again c = (omega arith, omega arith, rw turns-next (cc))
+loop-again c = (omega arith, omega arith, rw (c .before .before .turn-pair .ensures) (turns-more 0 _ _ _ _ zero-le (c .before .before .before .before .before .loop .inv .2)))
 
 returns : tie.Need-returns Inv-loop μ-loop
-returns c = cc (le-antisymm (c .before .loop .inv .0) (c .loop-test .left))
+returns c = rw (le-antisymm (c .before .loop .inv .0) (c .loop-test .left)) at (c .before .loop .inv .2)
 
 pub apply-g-left-spec : {M : Type 1} → statement M
 apply-g-left-spec = tie.close (tie.spec Inv-loop μ-loop mul-upper add-lower mul-lower loop-holds add-turn-pair add-turn-pair-2 add-turn-pair-3 add-turn-pair-4 turn-pair-requires (λ c. search needs) (λ c. search needs) loop-again (λ c. search needs) returns)

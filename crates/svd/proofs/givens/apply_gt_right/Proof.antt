@@ -8,7 +8,7 @@ use lib.ListN.{length, length-set}
 use lib.Ieee.{binary64}
 use Rattle.method.specs.Index.{row-fits}
 use Rattle.svd.specs.Values.{rotation}
-use Rattle.method.specs.Turns.{turns-none, turns-next}
+use Rattle.method.specs.Turns.{turns-none, turns-more}
 use Rattle.method.specs.Rotation.{columnsTurned}
 use Rattle.svd.proofs.givens.apply_gt_right.Statement.{statement}
 use Rattle.svd.proofs.givens.apply_gt_right.Tie as tie
@@ -49,10 +49,10 @@ turn-pair-requires c κs =
 
 loop-again : tie.Need-loop-again Inv-loop μ-loop
 unfolding columnsTurned
-loop-again c = (omega arith, omega arith, rw turns-next (cc))
+loop-again c = (omega arith, omega arith, rw (c .before .before .turn-pair .ensures) (turns-more 0 _ _ _ _ zero-le (c .before .before .before .before .before .loop .inv .2)))
 
 returns : tie.Need-returns Inv-loop μ-loop
-returns c = cc (le-antisymm (c .before .loop .inv .0) (c .loop-test .left))
+returns c = rw (le-antisymm (c .before .loop .inv .0) (c .loop-test .left)) at (c .before .loop .inv .2)
 
 pub apply-gt-right-spec : {M : Type 1} → statement M
 apply-gt-right-spec = tie.close (tie.spec Inv-loop μ-loop loop-holds add-row mul-row add-turn-pair add-turn-pair-2 add-turn-pair-3 turn-pair-requires (λ c. search needs) (λ c. search needs) loop-again (λ c. search needs) returns)

@@ -5,7 +5,7 @@ use mathlib.Core.Path.{_≡_, refl, ap, _∙_}
 use native.Mathlib.Omega.{arith}
 use native.Mathlib.Nat.{le-antisymm}
 use lib.ListN.{length, length-set}
-use Rattle.method.specs.Turns.{turns-none, turns-next}
+use Rattle.method.specs.Turns.{turns-none, turns-more}
 use Rattle.method.specs.Reflection.{rowCopied}
 use Rattle.svd.proofs.householder.copy_row.Statement.{statement}
 use Rattle.svd.proofs.householder.copy_row.Tie as tie
@@ -22,10 +22,10 @@ loop-holds c = (omega arith, ap length (c .pre .2), c .pre .2 ∙ turns-none 0 _
 
 loop-again : tie.Need-loop-again Inv-loop μ-loop
 unfolding rowCopied
-loop-again c = (omega arith, simp length-set (omega arith), rw turns-next (cc))
+loop-again c = (omega arith, simp length-set (omega arith), turns-more 0 _ _ _ _ zero-le (c .before .before .loop .inv .2))
 
 returns : tie.Need-returns Inv-loop μ-loop
-returns c = cc (le-antisymm (c .before .loop .inv .0) (c .loop-test .left))
+returns c = rw (le-antisymm (c .before .loop .inv .0) (c .loop-test .left)) at (c .before .loop .inv .2)
 
 pub copy-row-spec : {M : Type 1} → statement M
 copy-row-spec = tie.close (tie.spec Inv-loop μ-loop loop-holds (λ c. search needs) (λ c. search needs) (λ c. search needs) (λ c. search needs) (λ c. search needs) (λ c. search needs) (λ c. search needs) loop-again (λ c. search needs) returns)

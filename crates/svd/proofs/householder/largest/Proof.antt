@@ -28,7 +28,7 @@ loop-again c =
     (omega arith, ⊎-elim (λ w. w .1 ∙ widened-taken _ _ _ (w .0 .taken) (c .before .magnitude .ensures) ∙ turns-more 0 _ _ _ _ zero-le (lp .loop .inv .1)) (λ w. w .1 ∙ widened-left _ _ _ (w .0 .left) (c .before .magnitude .ensures) ∙ turns-more 0 _ _ _ _ zero-le (lp .loop .inv .1)) (c .if1 .came))
 
 returns : tie.Need-returns Inv-loop μ-loop
-returns c = cc (le-antisymm (c .before .loop .inv .0) (c .loop-test .left))
+returns c = rw (le-antisymm (c .before .loop .inv .0) (c .loop-test .left)) at (c .before .loop .inv .1)
 
 pub largest-spec : {M : Type 1} → statement M
 largest-spec = tie.close (tie.spec Inv-loop μ-loop loop-holds (λ c. search needs) (λ c. search needs) (λ c. search needs) (λ c κs. search needs) (λ c. search needs) (λ c. search needs) loop-again returns)

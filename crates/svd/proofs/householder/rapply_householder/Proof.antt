@@ -7,7 +7,7 @@ use native.Mathlib.Nat.{le-antisymm}
 use lib.ListN.{length, length-set}
 use lib.Ieee.{binary64}
 use Rattle.method.specs.Index.{row-fits}
-use Rattle.method.specs.Turns.{turns-none, turns-next}
+use Rattle.method.specs.Turns.{turns-none, turns-more}
 use Rattle.method.specs.Reflection.{reflectedRight}
 use Rattle.svd.proofs.householder.rapply_householder.Statement.{statement}
 use Rattle.svd.proofs.householder.rapply_householder.Tie as tie
@@ -40,10 +40,10 @@ reflect-row-requires c κs =
 
 loop-again : tie.Need-loop-again Inv-loop μ-loop
 unfolding reflectedRight
-loop-again c = (omega arith, omega arith, rw turns-next (cc))
+loop-again c = (omega arith, omega arith, rw (c .before .before .reflect-row .ensures) (turns-more 0 _ _ _ _ zero-le (c .before .before .before .before .before .loop .inv .2)))
 
 returns : tie.Need-returns Inv-loop μ-loop
-returns c = cc (le-antisymm (c .before .loop .inv .0) (c .loop-test .left))
+returns c = rw (le-antisymm (c .before .loop .inv .0) (c .loop-test .left)) at (c .before .loop .inv .2)
 
 pub rapply-householder-spec : {M : Type 1} → statement M
 rapply-householder-spec = tie.close (tie.spec Inv-loop μ-loop loop-holds add-off mul-off add-off-2 reflect-row-requires (λ c. search needs) (λ c. search needs) loop-again (λ c. search needs) returns)

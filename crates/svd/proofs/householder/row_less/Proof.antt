@@ -30,7 +30,7 @@ same-length c = simp length-set at (c .before .loop .inv .3)
 
 returns : tie.Need-returns Inv-loop μ-loop
 unfolding rowLess
-returns c = cc (le-antisymm (c .before .loop .inv .1) (c .loop-test .left))
+returns c = rw (le-antisymm (c .before .loop .inv .1) (c .loop-test .left)) at (c .before .loop .inv .4)
 
 pub row-less-spec : {M : Type 1} → statement M
 row-less-spec = tie.close (tie.spec Inv-loop μ-loop (λ c. search needs) (λ c. search needs) (λ c. search needs) loop-holds (λ c. search needs) (λ c. search needs) (λ c. search needs) (λ c. search needs) (λ c. search needs) (λ c. search needs) (λ c. search needs) (λ c. search needs) loop-again same-length returns)

@@ -25,7 +25,7 @@ unfolding rowTimes
 loop-again c = (omega arith, omega arith, turns-more 1 _ _ _ _ (c .before .before .before .loop .inv .0) (c .before .before .before .loop .inv .2))
 
 returns : tie.Need-returns Inv-loop μ-loop
-returns c = cc (le-antisymm (c .before .loop .inv .1) (c .loop-test .left))
+returns c = rw (le-antisymm (c .before .loop .inv .1) (c .loop-test .left)) at (c .before .loop .inv .2)
 
 pub row-times-spec : {M : Type 1} → statement M
 row-times-spec = tie.close (tie.spec Inv-loop μ-loop (λ c. search needs) (λ c. search needs) loop-holds (λ c. search needs) (λ c. search needs) (λ c. search needs) (λ c. search needs) (λ c. search needs) (λ c. search needs) (λ c. search needs) loop-again returns)

@@ -63,7 +63,7 @@ loop-again c =
 
 returns : tie.Need-returns Inv-loop μ-loop
 unfolding rowsLess
-returns c = rw (← c .before .before .before .before .row-less-all .ensures) (cc (le-antisymm (c .before .loop .inv .1) (c .loop-test .left)))
+returns c = rw (← c .before .before .before .before .row-less-all .ensures) (rw (le-antisymm (c .before .loop .inv .1) (c .loop-test .left)) at (c .before .loop .inv .3))
 
 pub rows-less-spec : {M : Type 1} → statement M
 rows-less-spec = tie.close (tie.spec Inv-loop μ-loop mul-row-less-all add-row-less-all row-less-all-requires loop-holds add-off mul-off add-off-2 (λ c. search needs) (λ c. search needs) row-less-times-requires (λ c. search needs) (λ c. search needs) loop-again (λ c. search needs) returns)

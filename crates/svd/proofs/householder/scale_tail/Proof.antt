@@ -26,7 +26,7 @@ unfolding tailTimes
 loop-again c = (omega arith, omega arith, simp length-set (omega arith), turns-more 1 _ _ _ _ (c .before .before .loop .inv .0) (c .before .before .loop .inv .3))
 
 returns : tie.Need-returns Inv-loop μ-loop
-returns c = cc (le-antisymm (c .before .loop .inv .1) (c .loop-test .left))
+returns c = rw (le-antisymm (c .before .loop .inv .1) (c .loop-test .left)) at (c .before .loop .inv .3)
 
 pub scale-tail-spec : {M : Type 1} → statement M
 scale-tail-spec = tie.close (tie.spec Inv-loop μ-loop loop-holds (λ c. search needs) (λ c. search needs) (λ c. search needs) (λ c. search needs) (λ c. search needs) loop-again (λ c. search needs) returns)

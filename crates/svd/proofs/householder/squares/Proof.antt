@@ -5,7 +5,7 @@ use mathlib.Core.Path.{_≡_, refl, ap, _∙_}
 use native.Mathlib.Omega.{arith}
 use native.Mathlib.Nat.{le-antisymm}
 use lib.Ieee.{binary64}
-use Rattle.method.specs.Turns.{turns-none, turns-next}
+use Rattle.method.specs.Turns.{turns-none, turns-more}
 use Rattle.method.specs.Reflection.{squaresOf}
 use Rattle.method.specs.Floats.{plusZero-64}
 use Rattle.svd.proofs.householder.squares.Statement.{statement}
@@ -23,10 +23,10 @@ loop-holds c = (omega arith, plusZero-64 ∙ turns-none 0 _ _)
 
 loop-again : tie.Need-loop-again Inv-loop μ-loop
 unfolding squaresOf
-loop-again c = (omega arith, rw turns-next (cc))
+loop-again c = (omega arith, turns-more 0 _ _ _ _ zero-le (c .before .before .before .loop .inv .1))
 
 returns : tie.Need-returns Inv-loop μ-loop
-returns c = cc (le-antisymm (c .before .loop .inv .0) (c .loop-test .left))
+returns c = rw (le-antisymm (c .before .loop .inv .0) (c .loop-test .left)) at (c .before .loop .inv .1)
 
 pub squares-spec : {M : Type 1} → statement M
 squares-spec = tie.close (tie.spec Inv-loop μ-loop loop-holds (λ c. search needs) (λ c. search needs) (λ c. search needs) (λ c. search needs) (λ c. search needs) (λ c. search needs) loop-again returns)

@@ -61,7 +61,7 @@ loop-again c =
 
 returns : tie.Need-returns Inv-loop μ-loop
 unfolding columnSums
-returns c = rw (← c .before .before .before .before .copy-row .ensures) (cc (le-antisymm (c .before .loop .inv .1) (c .loop-test .left)))
+returns c = rw (← c .before .before .before .before .copy-row .ensures) (rw (le-antisymm (c .before .loop .inv .1) (c .loop-test .left)) at (c .before .loop .inv .3))
 
 pub sum-columns-spec : {M : Type 1} → statement M
 sum-columns-spec = tie.close (tie.spec Inv-loop μ-loop mul-copy-row add-copy-row copy-row-requires loop-holds add-off mul-off add-off-2 (λ c. search needs) (λ c. search needs) add-row-requires (λ c. search needs) (λ c. search needs) loop-again (λ c. search needs) returns)
