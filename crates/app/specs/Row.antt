@@ -9,8 +9,8 @@ use lib.ListN.{length, take, drop}
 use lib.Ieee.{Float}
 use Rattle.method.specs.Floats.{pick}
 use Rattle.method.specs.Index.{few}
-use Rattle.method.specs.Outcome.{viewFit, rowViewed}
-use Rattle.method.specs.Outcome.Refusals.{ViewFit, view-fit, row-viewed, row-viewed-length, row-refused}
+use Rattle.method.specs.View.{viewFit, rowViewed}
+use Rattle.method.specs.View.Rows.{ViewFit, view-fit, row-viewed, row-viewed-length, row-refused}
 use Rattle.app.specs.declared.Part.{Part}
 
 abbrev pub part : ℕ → ℕ → Part

@@ -2,6 +2,7 @@
 use Prim.Native.Nat.{ℕ}
 use lib.Ieee.{Float}
 use Rattle.method.specs.Work.{Work}
+use Rattle.method.specs.Settings.{Settings}
 use Rattle.method.specs.Outcome as Outcome
 use Rattle.method.specs.Outcome.{Outcome}
 use Rattle.app.specs.declared.Answer.{Answer}
@@ -39,8 +40,8 @@ abbrev pub told : Outcome → Answered
 told o = answered (answerOf (o .report)) (o .held)
 
 -- five settings
-abbrev pub chosen : ℕ → ℕ → Float → Float → Float → Outcome.Settings
+abbrev pub chosen : ℕ → ℕ → Float → Float → Float → Settings
 chosen limit credit tolerance absolute floor = record { limit = limit; credit = credit; tolerance = tolerance; absolute = absolute; floor = floor }
 
-abbrev pub settingsOf : Choice → Outcome.Settings
+abbrev pub settingsOf : Choice → Settings
 settingsOf c = chosen (c .limit) (c .credit) (c .tolerance) (c .absolute) (c .floor)

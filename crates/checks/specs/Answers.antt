@@ -4,17 +4,18 @@ use mathlib.Core.Bool.{Bool}
 use Prim.Native.Nat.{ℕ}
 use Rattle.method.specs.Work.{Work}
 use Rattle.method.specs.Defaults.{defaults}
-use Rattle.method.specs.Outcome as Outcome
-use Rattle.method.specs.Outcome.{refusalOf}
+use Rattle.method.specs.Settings as Method
+use Rattle.method.specs.Checks as Checks
+use Rattle.method.specs.Checks.{refusalOf}
 use Rattle.checks.specs.declared.settings.Settings.{Settings}
 use Rattle.checks.specs.declared.refusal.Refusal.{Refusal}
 use Rattle.checks.specs.Values.{settingsOf, refusalIn}
 
 -- a refusal is told by the method's refusal, and settings by the method's settings
-abbrev fromRefusal : Outcome.Refusal → Refusal
+abbrev fromRefusal : Checks.Refusal → Refusal
 fromRefusal r = record { number = r .number; place = r .place }
 
-abbrev fromSettings : Outcome.Settings → Settings
+abbrev fromSettings : Method.Settings → Settings
 fromSettings s = record { limit = s .limit; credit = s .credit; tolerance = s .tolerance; absolute = s .absolute; floor = s .floor }
 
 -- number and place of the first refusal

@@ -3,7 +3,9 @@ ghost use mathlib.Core.Path.{_≡_};
 ghost use mathlib.Core.Bool.{true, not, _&&_, _||_};
 ghost use lib.Dec.{eqb, ltb};
 ghost use Rattle.method.specs.Work.{work};
-ghost use Rattle.method.specs.Outcome.{boundFit, floorFit, refusal, refusalOf};
+ghost use Rattle.method.specs.Checks.{boundFit, floorFit, firstOf, refusal, refusalOf, sizeChecks, lengthChecks, settingChecks, readingChecks};
+ghost use Prim.Native.Nat.{_*_, _≤_};
+ghost use lib.ListN.{length};
 ghost use Rattle.checks.specs.Values.{settingsOf, refusalIn};
 use crate::search::first_bad;
 use crate::search::is_finite;
@@ -74,18 +76,10 @@ fn bounds_unfit(s: Settings) -> bool
     true
 }
 
-// The first refusal that applies, in the order of the numbers; the plain call keeps no factors, and
-// has no 4 and 5.
-pub fn first_refusal(
-    b: &[f64],
-    u: &[f64],
-    v: &[f64],
-    kept: bool,
-    rows: usize,
-    cols: usize,
-    s: Settings,
-) -> Refusal
-    ensures { λ r. ⌜ refusalIn r ≡ refusalOf kept rows cols (settingsOf s) (work (now (b .entry)) (now (u .entry)) (now (v .entry))) ⌝ }
+// ---- one function a segment of the table
+
+fn size_refusal(rows: usize, cols: usize) -> Refusal
+    ensures { λ r. ⌜ refusalIn r ≡ firstOf (sizeChecks rows cols) ⌝ }
 {
     if no_size(rows, cols) {
         return refuse(1, 0);
@@ -93,6 +87,15 @@ pub fn first_refusal(
     if too_large(rows, cols) {
         return refuse(2, 0);
     }
+    refuse(0, 0)
+}
+
+// The plain call keeps no factors, and has no 4 and 5.
+fn length_refusal(b: &[f64], u: &[f64], v: &[f64], kept: bool, rows: usize, cols: usize) -> Refusal
+    requires { ⌜ (rows ≤ 48) × (cols ≤ 48) ⌝ }
+    ensures { λ r. ⌜ refusalIn r
+        ≡ firstOf (lengthChecks kept rows cols (work (now (b .entry)) (now (u .entry)) (now (v .entry)))) ⌝ }
+{
     if wrong_length(true, b.len(), rows * cols) {
         return refuse(3, 0);
     }
@@ -102,15 +105,56 @@ pub fn first_refusal(
     if wrong_length(kept, v.len(), cols * cols) {
         return refuse(5, 0);
     }
+    refuse(0, 0)
+}
+
+fn setting_refusal(s: Settings) -> Refusal
+    ensures { λ r. ⌜ refusalIn r ≡ firstOf (settingChecks (settingsOf s)) ⌝ }
+{
     if over_limit(s) {
         return refuse(6, 0);
     }
     if bounds_unfit(s) {
         return refuse(7, 0);
     }
+    refuse(0, 0)
+}
+
+fn reading_refusal(b: &[f64], rows: usize, cols: usize) -> Refusal
+    requires { ⌜ (length (now b) ≡ rows * cols) × (rows ≤ 48) × (cols ≤ 48) ⌝ }
+    ensures { λ r. ⌜ refusalIn r ≡ firstOf (readingChecks (now (b .entry))) ⌝ }
+{
     let at = first_bad(b, rows, cols);
     if at < b.len() {
         return refuse(8, at);
     }
     refuse(0, 0)
+}
+
+// The first refusal that applies: of the sizes, of the lengths, of the settings, of the readings.
+pub fn first_refusal(
+    b: &[f64],
+    u: &[f64],
+    v: &[f64],
+    kept: bool,
+    rows: usize,
+    cols: usize,
+    s: Settings,
+) -> Refusal
+    ensures { λ r. ⌜ refusalIn r
+        ≡ refusalOf kept rows cols (settingsOf s) (work (now (b .entry)) (now (u .entry)) (now (v .entry))) ⌝ }
+{
+    let of_sizes = size_refusal(rows, cols);
+    if of_sizes.number != 0 {
+        return of_sizes;
+    }
+    let of_lengths = length_refusal(b, u, v, kept, rows, cols);
+    if of_lengths.number != 0 {
+        return of_lengths;
+    }
+    let of_settings = setting_refusal(s);
+    if of_settings.number != 0 {
+        return of_settings;
+    }
+    reading_refusal(b, rows, cols)
 }

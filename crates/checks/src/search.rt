@@ -3,7 +3,7 @@ ghost use mathlib.Core.Path.{_≡_};
 ghost use Prim.Native.Nat.{_*_, _≤_};
 ghost use lib.ListN.{length};
 ghost use lib.Ieee.Scale.{finite};
-ghost use Rattle.method.specs.Outcome.{firstBad};
+ghost use Rattle.method.specs.Checks.{firstBad};
 
 // Whether x is neither infinite nor NaN.
 pub(crate) fn is_finite(x: f64) -> bool

@@ -3,7 +3,8 @@ use mathlib.Core.Path.{_≡_, sym, ap, _∙_}
 use mathlib.Core.List.{List}
 use Prim.Native.Nat.{ℕ}
 use lib.Ieee.{Float}
-use Rattle.method.specs.Outcome.{Filled, filled, fillOutcome, rowViewed}
+use Rattle.method.specs.Fill.{Filled, filled, fillOutcome}
+use Rattle.method.specs.View.{rowViewed}
 
 -- the number and the slice of the fill
 pub fill-one :

@@ -12,8 +12,10 @@ use lib.Seq.{drop-length}
 use lib.Ieee.{Float}
 use borrow.Author.Tests.{ltb-true, ltb-false, eq-eqb, ne-eqb}
 use Rattle.method.specs.Floats.{plusZero, pick}
-use Rattle.method.specs.Outcome.{identity, filled, fillNumber, fillOutcome, viewFit, rowViewed}
-use Rattle.method.specs.Outcome.Refusals.{FillFit, fill-numbers, fill-refused, fill-accepted, ViewFit, view-fit, row-viewed, row-refused}
+use Rattle.method.specs.Fill.{identity, filled, fillNumber, fillOutcome}
+use Rattle.method.specs.View.{viewFit, rowViewed}
+use Rattle.method.specs.Fill.Numbers.{FillFit, fill-fit, fill-refused, fill-accepted}
+use Rattle.method.specs.View.Rows.{ViewFit, view-fit, row-viewed, row-refused}
 use Rattle.method.specs.Index.{row-in, few}
 
 -- the next entry after k zeros set to 0: one zero more
@@ -37,7 +39,7 @@ fill-with n k a h e = sym (fill-refused n a (λ z. omega arith) ∙ ap (λ (m : 
 
 -- a fill that is accepted
 pub fill-done : (n : ℕ) (a b : List Float) → FillFit n a → b ≡ identity n → filled 0 b ≡ fillOutcome n a
-fill-done n a b f e = ap (λ (l : List Float). filled 0 l) e ∙ sym (fill-accepted n a (fill-numbers n a .accepted .1 f))
+fill-done n a b f e = ap (λ (l : List Float). filled 0 l) e ∙ sym (fill-accepted n a (fill-fit n a .1 f))
 
 -- ---- the row view
 

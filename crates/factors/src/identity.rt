@@ -3,7 +3,7 @@ ghost use mathlib.Core.Path.{_≡_};
 ghost use Prim.Native.Nat.{_*_, _≤_};
 ghost use lib.ListN.{length, replicate};
 ghost use Rattle.method.specs.Floats.{plusZero};
-ghost use Rattle.method.specs.Outcome.{identity, filled, fillOutcome};
+ghost use Rattle.method.specs.Fill.{identity, filled, fillOutcome};
 
 // All n entries of a, set to 0.
 fn zeros(a: &mut [f64], n: usize)

@@ -2,7 +2,7 @@
 ghost use mathlib.Core.Path.{_≡_};
 ghost use mathlib.Core.Bool.{true, false};
 ghost use Prim.Native.Nat.{_+_, _*_};
-ghost use Rattle.method.specs.Outcome.{viewFit, rowViewed};
+ghost use Rattle.method.specs.View.{viewFit, rowViewed};
 
 // Whether sizes, lengths, side and row are fit.
 fn view_fit(rows: usize, cols: usize, u: &[f64], v: &[f64], side: usize, row: usize) -> bool

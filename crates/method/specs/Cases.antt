@@ -14,7 +14,10 @@ use Rattle.method.specs.Reflection.{largestOf, scaled, cleared, squaresO
 use Rattle.method.specs.Bidiagonal.{columnCopied, columnCleared, columnMatrix, rowMatrix, factorReflected, columnZeroed, rowZeroed, placesZeroed, bidiagonal}
 use Rattle.method.specs.Chase.{turned, singular, negligible, steps, swept}
 use Rattle.method.specs.Walk.{pass, run}
-use Rattle.method.specs.Outcome.{Settings, Word, none, settled, stopped, Report, Outcome, firstOf, firstBad, accepted, outcome, plainOutcome, fullOutcome, identity}
+use Rattle.method.specs.Checks.{firstOf, firstBad}
+use Rattle.method.specs.Fill.{identity}
+use Rattle.method.specs.Outcome.{Word, none, settled, stopped, Report, Outcome, accepted, outcome, plainOutcome, fullOutcome}
+use Rattle.method.specs.Settings.{Settings}
 use Rattle.method.specs.Defaults.{defaultTolerance, defaultAbsolute, defaultFloor}
 
 -- ---- answers as numbers: floats by their patterns, none 0, settled 1, stopped 2

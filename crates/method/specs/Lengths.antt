@@ -15,7 +15,9 @@ use Rattle.method.specs.Reflection.{Reflection, blank, reflectionOf, ref
 use Rattle.method.specs.Bidiagonal.{columnReflection, columnCopied, columnCleared, headed, columnMatrix, rowMatrix, factorReflected, columnZeroed, rowZeroed, firstZeroed, thenZeroed, placesZeroed, bidiagonal, column-still, column-moved, row-still, row-moved, factor-still, factor-moved}
 use Rattle.method.specs.Chase.{turned, pushed, stepped, steps, swept, firstRotation}
 use Rattle.method.specs.Relation.Alone.{Holds, bidiagonal-holds, steps-holds, swept-holds, run-holds}
-use Rattle.method.specs.Outcome.{Settings, Outcome, walkedFrom, rulesOf, isUpper, card, accepted, outcome, refusalOf}
+use Rattle.method.specs.Checks.{refusalOf}
+use Rattle.method.specs.Outcome.{Outcome, walkedFrom, rulesOf, isUpper, card, accepted, outcome}
+use Rattle.method.specs.Settings.{Settings}
 
 -- the three lists of w have the lengths of w₀'s
 pub record SameLengths (w₀ w : Work) : Type 0 where

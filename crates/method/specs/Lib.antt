@@ -13,6 +13,10 @@ pub mod Bidiagonal
 pub mod Chase
 pub mod Walk
 pub mod Positions
+pub mod Settings
+pub mod Checks
+pub mod Fill
+pub mod View
 pub mod Outcome
 pub mod Defaults
 pub mod Cases

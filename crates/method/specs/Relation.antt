@@ -15,7 +15,8 @@ use Rattle.method.specs.Bidiagonal.{columnZeroed, rowZeroed, firstZeroed
 use Rattle.method.specs.Chase.{along, turned, pushed, stepped, steps, swept, negligible, firstRotation}
 use Rattle.method.specs.Walk.{Walk, run, enough, begun, stands}
 use Rattle.method.specs.Walk.Alike.{Alike, run-alike}
-use Rattle.method.specs.Outcome.{Settings, card, isUpper, rulesOf, walkedFrom}
+use Rattle.method.specs.Outcome.{card, isUpper, rulesOf, walkedFrom}
+use Rattle.method.specs.Settings.{Settings}
 
 -- what each turn from lo to hi - 1 of two loops keeps between them, the whole loops keep
 pub turns-both :

@@ -9,7 +9,8 @@ use lib.Ieee.{Format}
 use Rattle.method.specs.Floats.{pick}
 use Rattle.method.specs.Work.{Work, work, packed}
 use Rattle.method.specs.Walk.Alike.{Alike}
-use Rattle.method.specs.Outcome.{Settings, card, reported, walkedFrom, accepted}
+use Rattle.method.specs.Outcome.{card, reported, walkedFrom, accepted}
+use Rattle.method.specs.Settings.{Settings}
 use Rattle.method.specs.Relation.{run-kept}
 use Rattle.method.specs.Relation.Parts.{Between, Parts, FactorKept, parts-kept, Equal, equal-kept, Any, any-kept}
 

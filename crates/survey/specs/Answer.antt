@@ -13,10 +13,14 @@ use lib.Ieee.{Float, nan, binary64, ofBits, lt}
 use lib.Ieee.Scale.{finite}
 use lib.ListN.{length, getD}
 use Rattle.method.specs.Work.{Work, work}
-use Rattle.method.specs.Outcome.{Report, Outcome, Refusal, outcomeOf, refusal, refused, refusalOf, plainOutcome, accepted}
+use Rattle.method.specs.Checks.{Refusal, refusal, refusalOf}
+use Rattle.method.specs.Outcome.{Report, Outcome, outcomeOf, refused, plainOutcome, accepted}
 use Rattle.method.specs.Defaults.{defaults, defaultTolerance, defaultAbsolute, defaultFloor}
 use Rattle.method.specs.Outcome.Reports.{accepted-true, card-most}
-use Rattle.method.specs.Outcome.Refusals.{FirstBadAt, BadReading, NoSize, TooLarge, OverLimit, UnfitBounds, Past, numbers, firstBad-at, place-eight, place-other, refused-outcome, accepted-outcome}
+use Rattle.method.specs.Checks.Readings.{FirstBadAt, BadReading, firstBad-at}
+use Rattle.method.specs.Checks.First.{None}
+use Rattle.method.specs.Checks.Table.{NoSize, TooLarge, OverLimit, UnfitBounds, lengthMeanings, clear, eight-given, numbers-few, place}
+use Rattle.method.specs.Outcome.Refused.{refused-outcome, accepted-outcome}
 use Rattle.method.specs.Lengths.{outcome-lengths}
 use Rattle.survey.specs.Code.{Small}
 
@@ -45,8 +49,8 @@ module _ (rows cols : ℕ) (xs : List Float) (t : Table rows cols xs) where
   place-few = go (eqb (why .number) 8) refl
     where
       go : (b : Bool) → eqb (why .number) 8 ≡ b → why .place < 2304 + 1
-      go true e = omega (arith, few, place-eight false rows cols defaults given (eqb-true (why .number) 8 e) .inside)
-      go false e = omega (arith, place-other false rows cols defaults given (eqb-false (why .number) 8 e))
+      go true e = omega (arith, few, place false rows cols defaults given .eight (eqb-true (why .number) 8 e) .inside)
+      go false e = omega (arith, place false rows cols defaults given .other (eqb-false (why .number) 8 e))
 
   -- every number of the report has at most 6 digits
   pub small : Small said
@@ -66,7 +70,7 @@ module _ (rows cols : ℕ) (xs : List Float) (t : Table rows cols xs) where
           }
       go false e =
           subst (λ (o : Outcome). Small (o .report)) (sym (refused-outcome binary64 false rows cols defaults given (eqb-false (why .number) 0 e))) record {
-            number = omega (arith, numbers false rows cols defaults given .most);
+            number = omega (arith, numbers-few false rows cols defaults given);
             place = omega (arith, place-few);
             passes = omega arith;
             sweeps = omega arith;
@@ -93,21 +97,23 @@ module _ (rows cols : ℕ) (xs : List Float) (t : Table rows cols xs) where
   unfolding ofBits lt defaultTolerance defaultAbsolute defaultFloor
   fit-bounds z = ⊎-elim (λ e. true≢false e) (λ y. ⊎-elim (λ e. true≢false e) (λ e. true≢false e) y) z
 
-  past : Past 7 false rows cols defaults given
-  past = (fit-size, (fit-large, (λ z. z (t .size), (λ z. false≢true (z .0), (λ z. false≢true (z .0), (fit-limit, (fit-bounds, tt)))))))
+  lengths-fit : None (lengthMeanings false rows cols given)
+  lengths-fit = (λ z. z (t .size), (λ z. false≢true (z .0), (λ z. false≢true (z .0), tt)))
 
   -- where every reading is finite the call accepts,
   pub accepts : ((k : ℕ) → k < length xs → finite (getD xs k nan) ≡ true) → plainOutcome binary64 rows cols defaults xs ≡ accepted binary64 false rows cols defaults given
   accepts all =
       let no : BadReading xs → ⊥ = λ b. true≢false (sym (all (b .at) (b .inside)) ∙ b .bad) in
-      accepted-outcome binary64 false rows cols defaults given (numbers false rows cols defaults given .accepted .1
-      (fit-size, (fit-large, (λ z. z (t .size), (λ z. false≢true (z .0), (λ z. false≢true (z .0), (fit-limit, (fit-bounds, (no, tt)))))))))
+      accepted-outcome binary64 false rows cols defaults given (clear false rows cols defaults given .1
+      record { sizes = (fit-size, (fit-large, tt)); lengths = lengths-fit; settings = (fit-limit, (fit-bounds, tt)); readings = (no, tt) })
 
   -- and where one is not, it refuses by 8 with the place of the first, and leaves the readings as they were
   pub refuses : (p : ℕ) → FirstBadAt xs p → plainOutcome binary64 rows cols defaults xs ≡ outcomeOf (refused (refusal 8 p)) given
   refuses p b =
-      let n : why .number ≡ 8 = numbers false rows cols defaults given .eight .1 (record { at = p; inside = b .inside; bad = b .bad }, past) in
-      let f = place-eight false rows cols defaults given n in
+      let n : why .number ≡ 8 =
+      eight-given false rows cols defaults given (fit-size, (fit-large, tt)) lengths-fit (fit-limit, (fit-bounds, tt))
+      record { at = p; inside = b .inside; bad = b .bad } in
+      let f = place false rows cols defaults given .eight n in
       let q : why .place ≡ p = sym (firstBad-at xs (why .place) (f .before) (f .inside) (f .bad)) ∙ firstBad-at xs p (b .before) (b .inside) (b .bad) in
       let o = refused-outcome binary64 false rows cols defaults given (λ z. omega (arith, n, z)) in
       rw (n, q) at o

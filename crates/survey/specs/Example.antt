@@ -10,7 +10,8 @@ use Rattle.method.specs.Reflection.{largestOf, scaled, cleared, squaresOf, tail
 use Rattle.method.specs.Bidiagonal.{columnCopied, columnCleared, columnMatrix, rowMatrix, factorReflected, columnZeroed, rowZeroed, placesZeroed, bidiagonal}
 use Rattle.method.specs.Chase.{turned, singular, negligible, steps, swept}
 use Rattle.method.specs.Walk.{pass, run}
-use Rattle.method.specs.Outcome.{firstOf, firstBad, accepted, outcome}
+use Rattle.method.specs.Checks.{firstOf, firstBad}
+use Rattle.method.specs.Outcome.{accepted, outcome}
 use Rattle.method.specs.Defaults.{defaultTolerance, defaultAbsolute, defaultFloor}
 use Rattle.survey.specs.Text.{Bytes, LF, space, _>>=_, when, cut, worth, value, decimal, number, pattern, digit, digits, placesBy, shown, ending, lineText}
 use Rattle.survey.specs.Form.{countLine, named, entryLine, rowLine, short, line, andThen, contents, head, body, bodies, reading}

@@ -9,9 +9,11 @@ use mathlib.Core.Bool.{true, false}
 use lib.ListN.{length, take, drop, getD}
 use lib.Seq.{sets, sets-eq, take-at, drop-at}
 use Rattle.method.specs.Work.{work}
-use Rattle.method.specs.Outcome.{Outcome, outcomeOf, refusal, refused, accepted}
+use Rattle.method.specs.Checks.{refusal}
+use Rattle.method.specs.Outcome.{Outcome, outcomeOf, refused, accepted}
 use Rattle.method.specs.Defaults.{defaults}
-use Rattle.method.specs.Outcome.Refusals.{FirstBadAt, accepted-number}
+use Rattle.method.specs.Checks.Readings.{FirstBadAt}
+use Rattle.method.specs.Outcome.Refused.{accepted-number}
 use Rattle.survey.specs.Text.{Bytes, shown, lineText, Written}
 use Rattle.survey.specs.Form.{Survey}
 use Rattle.survey.specs.Print.{rowsText, reportText, refusedText, refusedWord, outcomeText, surveyText, split}

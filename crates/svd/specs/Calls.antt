@@ -9,8 +9,11 @@ use lib.Ieee.{Float, binary64}
 use Rattle.method.specs.Work.{Work, work, packed}
 use Rattle.method.specs.Lengths.{SameLengths, outcome-lengths}
 use Rattle.method.specs.Walk.{Walk as Counts, State, stands}
-use Rattle.method.specs.Outcome.{Settings, Report, Refusal, Outcome, outcomeOf, refused, reported, refusalOf, walkedFrom, accepted, outcome}
-use Rattle.method.specs.Outcome.Refusals.{Fit, fit, refused-outcome, accepted-outcome}
+use Rattle.method.specs.Checks.{Refusal, refusalOf}
+use Rattle.method.specs.Outcome.{Report, Outcome, outcomeOf, refused, reported, walkedFrom, accepted, outcome}
+use Rattle.method.specs.Settings.{Settings}
+use Rattle.method.specs.Checks.Table.{Fit, fit}
+use Rattle.method.specs.Outcome.Refused.{refused-outcome, accepted-outcome}
 use Rattle.svd.specs.Values.{Roomy, Lent}
 use native.Mathlib.Omega.{arith}
 

@@ -15,7 +15,8 @@ use Rattle.method.specs.Walk.Counts.{walked-same, enough-most}
 use Rattle.method.specs.Walk.Run.{Going, narrow, spent}
 use Rattle.method.specs.Walk.Loop.{Room, Made, made-none, made-drop, made-sweep, made-moved, made-room, made-all, made-end}
 use Rattle.method.specs.Positions.{Placed, couplingPlace, cornerStart, beginPlaced, counted, cornerDropped, counted-placed, dropped-placed}
-use Rattle.method.specs.Outcome.{rulesOf, card, isUpper, walkedFrom, Settings}
+use Rattle.method.specs.Outcome.{rulesOf, card, isUpper, walkedFrom}
+use Rattle.method.specs.Settings.{Settings}
 use Rattle.method.specs.Bidiagonal.{bidiagonal}
 use lib.Dec.{lit<}
 use Rattle.svd.specs.Values.{counts, corner, Roomy, Lent, roomy-kept, u-kept, v-kept}

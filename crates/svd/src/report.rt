@@ -1,7 +1,8 @@
 // What a call answers.
 ghost use mathlib.Core.Path.{_≡_};
 ghost use Prim.Native.Nat.{_≤_, _<_};
-ghost use Rattle.method.specs.Outcome.{refused, refusal, reported};
+ghost use Rattle.method.specs.Checks.{refusal};
+ghost use Rattle.method.specs.Outcome.{refused, reported};
 ghost use Rattle.svd.specs.Values.{reportOf, counts};
 use crate::primitives::Walk;
 

@@ -2,7 +2,7 @@
 -- and a settled answer is the same answer at every greater allowed limit. Assumes nothing.
 use mathlib.Core.Path.{_≡_}
 use mathlib.Core.Logic.{_⊎_, inl, inr}
-use mathlib.Core.Bool.{Bool, true, false}
+use mathlib.Core.Bool.{Bool, true, false, false≢true}
 use mathlib.Core.List.{[]}
 use Prim.Native.Nat.{ℕ, _≤_, _<_}
 use native.Mathlib.Nat.{le-trans}
@@ -10,20 +10,25 @@ use native.Mathlib.Omega.{arith}
 use lib.Ieee.{Format}
 use Rattle.method.specs.Work.{Work, work}
 use Rattle.method.specs.Walk.Counts.{enough-most}
-use Rattle.method.specs.Outcome.{Settings, settled, refusalOf, outcome, plainOutcome, fullOutcome}
-use Rattle.method.specs.Outcome.Refusals.{numbers, fit, accepted-outcome}
+use Rattle.method.specs.Checks.{refusalOf}
+use Rattle.method.specs.Outcome.{settled, outcome, plainOutcome, fullOutcome}
+use Rattle.method.specs.Settings.{Settings}
+use Rattle.method.specs.Checks.Table.{clear, fit}
+use Rattle.method.specs.Outcome.Refused.{accepted-outcome}
 use Rattle.method.specs.Outcome.Reports.{accepted-true, accepted-settled, atLimit, card-most}
 use Rattle.method.specs.Same.{accepted-agree}
-
-false-true : false ≡ true → ⊥
-false-true p = let z : _≡_ {A = ℕ} 0 1 = cc in omega arith
 
 -- the plain call asks less than the accumulating one
 pub plain-accepts : (rows cols : ℕ) (s : Settings) (w : Work) → refusalOf true rows cols s w .number ≡ 0 → refusalOf false rows cols s (work (w .matrix) [] []) .number ≡ 0
 plain-accepts rows cols s w e =
-    let p = numbers true rows cols s w .accepted .0 e in
-    numbers false rows cols s (work (w .matrix) [] []) .accepted .1
-    (p .0, (p .1 .0, (p .1 .1 .0, ((λ q. false-true (q .0)), ((λ q. false-true (q .0)), (p .1 .1 .1 .1 .1 .0, (p .1 .1 .1 .1 .1 .1 .0, (p .1 .1 .1 .1 .1 .1 .1 .0, tt))))))))
+    let c = clear true rows cols s w .0 e in
+    clear false rows cols s (work (w .matrix) [] []) .1
+    record {
+      sizes = c .sizes;
+      lengths = (c .lengths .0, (λ q. false≢true (q .0), (λ q. false≢true (q .0), tt)));
+      settings = c .settings;
+      readings = c .readings;
+    }
 
 -- with U and V kept or not, an accepted run has the same report and the same matrix
 pub calls-agree :
@@ -38,9 +43,9 @@ calls-agree f rows cols s w e =
 -- another allowed limit is not refused where this one is not
 pub limit-accepts : (kept : Bool) (rows cols : ℕ) (s : Settings) (w : Work) (n : ℕ) → n ≤ 100000 → refusalOf kept rows cols s w .number ≡ 0 → refusalOf kept rows cols (atLimit n s) w .number ≡ 0
 limit-accepts kept rows cols s w n h e =
-    let p = numbers kept rows cols s w .accepted .0 e in
-    numbers kept rows cols (atLimit n s) w .accepted .1
-    (p .0, (p .1 .0, (p .1 .1 .0, (p .1 .1 .1 .0, (p .1 .1 .1 .1 .0, (low (p .1 .1 .1 .1 .1 .0), (p .1 .1 .1 .1 .1 .1 .0, (p .1 .1 .1 .1 .1 .1 .1 .0, tt))))))))
+    let c = clear kept rows cols s w .0 e in
+    clear kept rows cols (atLimit n s) w .1
+    record { sizes = c .sizes; lengths = c .lengths; settings = (low (c .settings .0), c .settings .1); readings = c .readings }
   where
     low : ((100000 < s .limit) ⊎ (1000 < s .credit) → ⊥) → (100000 < n) ⊎ (1000 < s .credit) → ⊥
     low k (inl l) = omega arith

@@ -19,7 +19,8 @@ use Rattle.method.specs.Walk.{Walk, State, start, run, enough, walked}
 use Rattle.method.specs.Walk.Counts as Counts
 use Rattle.method.specs.Walk.Limits as Limits
 use Rattle.method.specs.Walk.Alike.{Alike, walked-alike}
-use Rattle.method.specs.Outcome.{Settings, Word, none, settled, stopped, Report, Outcome, card, isUpper, rulesOf, wordOf, reported, walkedFrom, accepted}
+use Rattle.method.specs.Outcome.{Word, none, settled, stopped, Report, Outcome, card, isUpper, rulesOf, wordOf, reported, walkedFrom, accepted}
+use Rattle.method.specs.Settings.{Settings}
 
 -- ---- settled and stopped
 

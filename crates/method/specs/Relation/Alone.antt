@@ -8,7 +8,8 @@ use Rattle.method.specs.Work.{Work, Shape, at}
 use Rattle.method.specs.Rotation.{Rotation}
 use Rattle.method.specs.Bidiagonal.{columnZeroed, rowZeroed, bidiagonal}
 use Rattle.method.specs.Chase.{turned, steps, swept}
-use Rattle.method.specs.Outcome.{Settings, card, walkedFrom}
+use Rattle.method.specs.Outcome.{card, walkedFrom}
+use Rattle.method.specs.Settings.{Settings}
 use Rattle.method.specs.Relation.{Kept, bidiagonal-kept, steps-kept, swept-kept, run-kept}
 
 -- the property P is kept by the three operations, at every place that a run over a diagonal of c entries uses

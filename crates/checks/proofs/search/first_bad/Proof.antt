@@ -11,7 +11,7 @@ use Prim.Native.Nat.{ℕ}
 use lib.ListN.{length, getD}
 use lib.Ieee.{nan}
 use lib.Ieee.Scale.{finite}
-use Rattle.method.specs.Outcome.Refusals.{firstBad-at, firstBad-none}
+use Rattle.method.specs.Checks.Readings.{firstBad-at, firstBad-none}
 use Rattle.method.specs.Index.{row-next, row-in, few}
 use Rattle.checks.proofs.search.first_bad.Statement.{statement}
 use Rattle.checks.proofs.search.first_bad.Tie as tie

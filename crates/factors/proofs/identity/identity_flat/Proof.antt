@@ -4,7 +4,7 @@ use Prim.Native.Nat.{_+_, _-_, _*_, _<_, _≤_, zero-le}
 use mathlib.Core.Path.{sym, _∙_}
 use native.Mathlib.Omega.{arith}
 use Rattle.method.specs.Index.{few}
-use Rattle.method.specs.Outcome.Refusals.{fill-numbers}
+use Rattle.method.specs.Fill.Numbers.{fill-one, fill-two, fill-four}
 use Rattle.factors.specs.Fill.{fill-with, fill-done}
 use Rattle.factors.proofs.identity.identity_flat.Statement.{statement}
 use Rattle.factors.proofs.identity.identity_flat.Tie as tie
@@ -12,12 +12,12 @@ use Rattle.factors.proofs.identity.identity_flat.Tie as tie
 returns : tie.Need-returns
 returns c =
     let st = c .before .before in
-    fill-with (st .args .n) 1 (st .args .a .now) (omega arith) (fill-numbers (st .args .n) (st .args .a .now) .one .1 (c .if1 .taken))
+    fill-with (st .args .n) 1 (st .args .a .now) (omega arith) (fill-one (st .args .n) (st .args .a .now) (c .if1 .taken))
 
 returns-2 : tie.Need-returns-2
 returns-2 c =
     let st = c .before .before .before in
-    fill-with (st .args .n) 2 (st .args .a .now) (omega arith) (fill-numbers (st .args .n) (st .args .a .now) .two .1 (c .if2 .taken))
+    fill-with (st .args .n) 2 (st .args .a .now) (omega arith) (fill-two (st .args .n) (st .args .a .now) (omega arith) (c .if2 .taken))
 
 mul-if3 : tie.Need-mul-if3
 mul-if3 c = let st = c .before .before .before in record { fits = omega (arith, few (st .args .n) (st .args .n) (omega arith) (omega arith)) }
@@ -25,7 +25,7 @@ mul-if3 c = let st = c .before .before .before in record { fits = omega (arith, 
 returns-3 : tie.Need-returns-3
 returns-3 c =
     let st = c .before .before .before .before in
-    fill-with (st .args .n) 4 (st .args .a .now) (omega arith) (fill-numbers (st .args .n) (st .args .a .now) .four .1 (omega arith, omega arith, c .if3 .taken))
+    fill-with (st .args .n) 4 (st .args .a .now) (omega arith) (fill-four (st .args .n) (st .args .a .now) (omega arith) (omega arith) (c .if3 .taken))
 
 ones-requires : tie.Need-ones-requires
 ones-requires c κs = (omega arith, c .before .before .before .zeros .ensures)

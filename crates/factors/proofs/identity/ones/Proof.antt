@@ -6,7 +6,7 @@ use native.Mathlib.Omega.{arith}
 use native.Mathlib.Nat.{le-antisymm}
 use lib.ListN.{length, length-set, length-replicate, set}
 use Rattle.method.specs.Turns.{turns, turns-none, turns-next}
-use Rattle.method.specs.Outcome.{identity}
+use Rattle.method.specs.Fill.{identity}
 use Rattle.method.specs.Floats.{one, one-64, plusZero}
 use Rattle.method.specs.Index.{row-in, few}
 use Rattle.factors.proofs.identity.ones.Statement.{statement}
