@@ -18,7 +18,7 @@ use Rattle.method.specs.Positions.{Placed, couplingPlace, cornerStart, beginPla
 use Rattle.method.specs.Outcome.{rulesOf, card, isUpper, walkedFrom, Settings}
 use Rattle.method.specs.Bidiagonal.{bidiagonal}
 use lib.Dec.{lit<}
-use Rattle.svd.specs.Values.{counts, corner, Roomy, Lent, roomy-kept, u-kept, v-kept}
+use Rattle.svd.specs.Values.{counts, corner, Roomy, Lending, lending-kept, Inside, Block}
 use Rattle.svd.specs.declared.primitives.Walk.{Walk}
 
 -- a record from which n passes may be asked: its range lies in the table, its places are those of the range, and its counts have room
@@ -114,41 +114,34 @@ module _ {z : Sizes} {upper : Bool} {n : ℕ} {s : Settings} {first : Walk} {sta
     -- what the test for a drop asks
     pub test-asks :
         Roomy z (start .matrix) →
-        (w .inter + 2 ≤ z .stride)
-        × (w .inter ≤ 46)
+        Block (z .stride) (w .inter) (w .inter) 2 2 (now .matrix)
         × (z .stride ≤ 64)
-        × ((w .inter + 2) * z .stride ≤ length (now .matrix))
         × (w .e1 ≡ couplingPlace upper (z .stride) (w .inter))
         × (w .tl ≡ w .inter * z .stride + w .inter)
         × (w .bl ≡ (w .inter + 1) * z .stride + w .inter)
-    test-asks r = (
-      omega (arith, at .two, inv-cols, r .wide),
-      omega (arith, at .two, inv-cols, r .cols-few),
-      r .stride-few,
-      rw (i .same .matrix) (le-trans (mul-le-mul-right (z .stride) (let l : w .inter + 2 ≤ z .rows = omega (arith, at .two, inv-rows) in l)) (r .whole)),
-      at .coupling,
-      at .topLeft,
-      at .bottomLeft,
-    )
+    test-asks r =
+        let in-rows : w .inter + 2 ≤ z .rows = omega (arith, at .two, inv-rows) in (
+          record {
+            wide = omega (arith, at .two, inv-cols, r .wide);
+            few = le-trans in-rows (r .rows-few);
+            whole = rw (i .same .matrix) (le-trans (mul-le-mul-right (z .stride) in-rows) (r .whole));
+          },
+          r .stride-few,
+          at .coupling,
+          at .topLeft,
+          at .bottomLeft,
+        )
 
     -- what a sweep asks
     pub sweep-asks :
-        Roomy z (start .matrix) →
-        Lent (z .rows) (z .urows) (start .u) →
-        Lent (z .cols) (z .vrows) (start .v) →
-        (w .inter + 2 ≤ z .rows)
-        × (w .inter + 2 ≤ z .cols)
-        × Roomy z (now .matrix)
-        × Lent (z .rows) (z .urows) (now .u)
-        × Lent (z .cols) (z .vrows) (now .v)
+        Lending z start →
+        Inside z (w .inter + 2)
+        × Lending z now
         × (w .tl ≡ w .inter * z .stride + w .inter)
         × (w .bl ≡ (w .inter + 1) * z .stride + w .inter)
-    sweep-asks r lu lv = (
-      omega (arith, at .two, inv-rows),
-      omega (arith, at .two, inv-cols),
-      roomy-kept z (i .same) r,
-      u-kept z (i .same) _ _ lu,
-      v-kept z (i .same) _ _ lv,
+    sweep-asks l = (
+      record { in-rows = omega (arith, at .two, inv-rows); in-cols = omega (arith, at .two, inv-cols) },
+      lending-kept (i .same) l,
       at .topLeft,
       at .bottomLeft,
     )

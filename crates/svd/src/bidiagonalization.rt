@@ -11,8 +11,9 @@ ghost use lib.ListN.{length};
 ghost use lib.Ieee.{binary64};
 ghost use Rattle.method.specs.Work.{work};
 ghost use Rattle.method.specs.Reflection.{blank, reflectionOf};
-ghost use Rattle.method.specs.Bidiagonal.{columnCopied, columnCleared, columnReflection, columnMatrix, rowMatrix, factorReflected, firstZeroed, thenZeroed, placesZeroed, bidiagonal};
-ghost use Rattle.svd.specs.Values.{sizes, Roomy, Lent, Taken};
+ghost use Rattle.method.specs.Bidiagonal.{columnCopied, columnCleared, columnReflection, columnMatrix, rowMatrix};
+ghost use Rattle.method.specs.Bidiagonal.{factorReflected, firstZeroed, thenZeroed, placesZeroed, bidiagonal};
+ghost use Rattle.svd.specs.Values.{sizes, Roomy, Lent, Lending, Inside, Taken};
 
 // The n entries of column j from row i on, into a blank vector.
 fn copy_col(b: &[f64], w: &mut [f64], stride: usize, i: usize, j: usize, n: usize)
@@ -64,7 +65,9 @@ fn take_col(
 fn zero_col(b: &mut [f64], u: &mut [f64], z: Shape, i: usize, j: usize, floor: f64)
     requires { ⌜ (i < z .rows) × (j < z .cols) × Roomy (sizes z) (now b) × Lent (z .rows) (z .urows) (now u) ⌝ }
     ensures { λ _. ⌜ (now (b .exit) ≡ columnMatrix binary64 floor (z .rows) (z .cols) (z .stride) i j (now (b .entry)))
-        × (now (u .exit) ≡ factorReflected binary64 (columnReflection binary64 floor (z .rows) (z .stride) i j (now (b .entry))) (z .rows) (z .urows) i (now (u .entry))) ⌝ }
+        × (now (u .exit) ≡
+        factorReflected binary64 (columnReflection binary64 floor (z .rows) (z .stride) i j (now (b .entry)))
+        (z .rows) (z .urows) i (now (u .entry))) ⌝ }
 {
     let stride = z.stride;
     let n = z.rows - i;
@@ -82,7 +85,9 @@ fn zero_col(b: &mut [f64], u: &mut [f64], z: Shape, i: usize, j: usize, floor: f
 fn zero_row(b: &mut [f64], v: &mut [f64], z: Shape, i: usize, j: usize, floor: f64)
     requires { ⌜ (i < z .rows) × (j < z .cols) × Roomy (sizes z) (now b) × Lent (z .cols) (z .vrows) (now v) ⌝ }
     ensures { λ _. ⌜ (now (b .exit) ≡ rowMatrix binary64 floor (z .rows) (z .cols) (z .stride) i j (now (b .entry)))
-        × (now (v .exit) ≡ factorReflected binary64 (reflectionOf binary64 floor (i * z .stride + j) (z .cols - j) (now (b .entry))) (z .cols) (z .vrows) j (now (v .entry))) ⌝ }
+        × (now (v .exit) ≡
+        factorReflected binary64 (reflectionOf binary64 floor (i * z .stride + j) (z .cols - j) (now (b .entry)))
+        (z .cols) (z .vrows) j (now (v .entry))) ⌝ }
 {
     let stride = z.stride;
     let n = z.cols - j;
@@ -107,8 +112,9 @@ fn zero_first(
     k: usize,
     floor: f64,
 )
-    requires { ⌜ (k < z .rows) × (k < z .cols) × Roomy (sizes z) (now b) × Lent (z .rows) (z .urows) (now u) × Lent (z .cols) (z .vrows) (now v) ⌝ }
-    ensures { λ _. ⌜ work (now (b .exit)) (now (u .exit)) (now (v .exit)) ≡ firstZeroed binary64 floor (sizes z) upper k (work (now (b .entry)) (now (u .entry)) (now (v .entry))) ⌝ }
+    requires { ⌜ Inside (sizes z) (k + 1) × Lending (sizes z) (work (now b) (now u) (now v)) ⌝ }
+    ensures { λ _. ⌜ work (now (b .exit)) (now (u .exit)) (now (v .exit)) ≡
+        firstZeroed binary64 floor (sizes z) upper k (work (now (b .entry)) (now (u .entry)) (now (v .entry))) ⌝ }
 {
     if upper {
         zero_col(b, u, z, k, k, floor);
@@ -127,8 +133,9 @@ fn zero_then(
     k: usize,
     floor: f64,
 )
-    requires { ⌜ (k + 1 < z .rows) × (k + 1 < z .cols) × Roomy (sizes z) (now b) × Lent (z .rows) (z .urows) (now u) × Lent (z .cols) (z .vrows) (now v) ⌝ }
-    ensures { λ _. ⌜ work (now (b .exit)) (now (u .exit)) (now (v .exit)) ≡ thenZeroed binary64 floor (sizes z) upper k (work (now (b .entry)) (now (u .entry)) (now (v .entry))) ⌝ }
+    requires { ⌜ Inside (sizes z) (k + 2) × Lending (sizes z) (work (now b) (now u) (now v)) ⌝ }
+    ensures { λ _. ⌜ work (now (b .exit)) (now (u .exit)) (now (v .exit)) ≡
+        thenZeroed binary64 floor (sizes z) upper k (work (now (b .entry)) (now (u .entry)) (now (v .entry))) ⌝ }
 {
     if upper {
         zero_row(b, v, z, k, k + 1, floor);
@@ -147,8 +154,9 @@ fn zero_places(
     pivot: usize,
     floor: f64,
 )
-    requires { ⌜ (pivot < z .rows) × (pivot < z .cols) × Roomy (sizes z) (now b) × Lent (z .rows) (z .urows) (now u) × Lent (z .cols) (z .vrows) (now v) ⌝ }
-    ensures { λ _. ⌜ work (now (b .exit)) (now (u .exit)) (now (v .exit)) ≡ placesZeroed binary64 floor (sizes z) upper pivot (work (now (b .entry)) (now (u .entry)) (now (v .entry))) ⌝ }
+    requires { ⌜ Inside (sizes z) (pivot + 1) × Lending (sizes z) (work (now b) (now u) (now v)) ⌝ }
+    ensures { λ _. ⌜ work (now (b .exit)) (now (u .exit)) (now (v .exit)) ≡
+        placesZeroed binary64 floor (sizes z) upper pivot (work (now (b .entry)) (now (u .entry)) (now (v .entry))) ⌝ }
 {
     for k in 0..pivot {
         zero_first(b, u, v, z, upper, k, floor);
@@ -166,8 +174,9 @@ pub(crate) fn bidiagonal(
     card: usize,
     floor: f64,
 )
-    requires { ⌜ (1 ≤ card) × (card ≤ z .rows) × (card ≤ z .cols) × Roomy (sizes z) (now b) × Lent (z .rows) (z .urows) (now u) × Lent (z .cols) (z .vrows) (now v) ⌝ }
-    ensures { λ _. ⌜ work (now (b .exit)) (now (u .exit)) (now (v .exit)) ≡ bidiagonal binary64 floor (sizes z) upper card (work (now (b .entry)) (now (u .entry)) (now (v .entry))) ⌝ }
+    requires { ⌜ (1 ≤ card) × Inside (sizes z) card × Lending (sizes z) (work (now b) (now u) (now v)) ⌝ }
+    ensures { λ _. ⌜ work (now (b .exit)) (now (u .exit)) (now (v .exit)) ≡
+        bidiagonal binary64 floor (sizes z) upper card (work (now (b .entry)) (now (u .entry)) (now (v .entry))) ⌝ }
 {
     let pivot = card - 1;
     zero_places(b, u, v, z, upper, pivot, floor);

@@ -4,8 +4,10 @@ ghost use mathlib.Core.Path.{_≡_};
 ghost use Prim.Native.Nat.{_+_, _*_, _≤_, _<_};
 ghost use lib.ListN.{length};
 ghost use lib.Ieee.{binary64};
-ghost use Rattle.method.specs.Reflection.{blank, largestOf, scaled, cleared, squaresOf, tailTimes, reflectionOf, rowTimes, rowLess, rowReflected, reflectedRight, rowCopied, rowAdded, columnSums, allTimes, rowLessAll, rowLessTimes, rowsLess, reflectedLeft};
-ghost use Rattle.svd.specs.Values.{reflection};
+ghost use Rattle.method.specs.Reflection.{blank, largestOf, scaled, cleared, squaresOf, tailTimes, reflectionOf};
+ghost use Rattle.method.specs.Reflection.{rowTimes, rowLess, rowReflected, reflectedRight, rowCopied, rowAdded};
+ghost use Rattle.method.specs.Reflection.{columnSums, allTimes, rowLessAll, rowLessTimes, rowsLess, reflectedLeft};
+ghost use Rattle.svd.specs.Values.{reflection, Block};
 
 // The largest magnitude among the n entries from `at` on.
 fn largest(v: &[f64], at: usize, n: usize) -> f64
@@ -71,7 +73,8 @@ fn scale_tail(w: &mut [f64], n: usize, x: f64)
 // which comes blank, and its tau.
 pub(crate) fn params(v: &mut [f64], p: &mut [f64], at: usize, n: usize, floor: f64) -> f64
     requires { ⌜ (1 ≤ n) × (at + n ≤ length (now v)) × (n ≤ 48) × (now p ≡ blank) ⌝ }
-    ensures { λ r. ⌜ reflection (now (v .exit)) (now (p .exit)) r ≡ reflectionOf binary64 floor at n (now (v .entry)) ⌝ }
+    ensures { λ r. ⌜ reflection (now (v .exit)) (now (p .exit)) r ≡
+        reflectionOf binary64 floor at n (now (v .entry)) ⌝ }
 {
     let max = largest(v, at, n);
     if max < floor {
@@ -137,8 +140,9 @@ pub(crate) fn rapply_householder(
     rows: usize,
     cols: usize,
 )
-    requires { ⌜ (1 ≤ cols) × (cols ≤ length (now p)) × (j + cols ≤ stride) × (i + rows ≤ 48) × ((i + rows) * stride ≤ length (now a)) ⌝ }
-    ensures { λ _. ⌜ now (a .exit) ≡ reflectedRight binary64 (now (p .entry)) tau stride i j rows cols (now (a .entry)) ⌝ }
+    requires { ⌜ (1 ≤ cols) × (cols ≤ length (now p)) × Block stride i j rows cols (now a) ⌝ }
+    ensures { λ _. ⌜ now (a .exit) ≡
+        reflectedRight binary64 (now (p .entry)) tau stride i j rows cols (now (a .entry)) ⌝ }
 {
     for k in 0..rows {
         let off = (i + k) * stride + j;
@@ -179,7 +183,8 @@ fn sum_columns(
     rows: usize,
     cols: usize,
 )
-    requires { ⌜ (1 ≤ rows) × (rows ≤ length (now p)) × (cols ≤ 48) × (j + cols ≤ stride) × (i + rows ≤ 48) × ((i + rows) * stride ≤ length (now a)) × (now w ≡ blank) ⌝ }
+    requires { ⌜ (1 ≤ rows) × (rows ≤ length (now p)) × (cols ≤ 48) × Block stride i j rows cols (now a)
+        × (now w ≡ blank) ⌝ }
     ensures { λ _. ⌜ now (w .exit) ≡ columnSums binary64 (now (p .entry)) stride i j rows cols (now (a .entry)) ⌝ }
 {
     copy_row(a, w, i * stride + j, cols);
@@ -232,8 +237,9 @@ fn rows_less(
     rows: usize,
     cols: usize,
 )
-    requires { ⌜ (1 ≤ rows) × (rows ≤ length (now p)) × (cols ≤ length (now w)) × (j + cols ≤ stride) × (i + rows ≤ 48) × ((i + rows) * stride ≤ length (now a)) ⌝ }
-    ensures { λ _. ⌜ now (a .exit) ≡ rowsLess binary64 (now (p .entry)) (now (w .entry)) stride i j rows cols (now (a .entry)) ⌝ }
+    requires { ⌜ (1 ≤ rows) × (rows ≤ length (now p)) × (cols ≤ length (now w)) × Block stride i j rows cols (now a) ⌝ }
+    ensures { λ _. ⌜ now (a .exit) ≡
+        rowsLess binary64 (now (p .entry)) (now (w .entry)) stride i j rows cols (now (a .entry)) ⌝ }
 {
     row_less_all(a, w, i * stride + j, cols);
     for k in 1..rows {
@@ -253,8 +259,9 @@ pub(crate) fn lapply_householder(
     rows: usize,
     cols: usize,
 )
-    requires { ⌜ (1 ≤ rows) × (rows ≤ length (now p)) × (cols ≤ 48) × (j + cols ≤ stride) × (i + rows ≤ 48) × ((i + rows) * stride ≤ length (now a)) ⌝ }
-    ensures { λ _. ⌜ now (a .exit) ≡ reflectedLeft binary64 (now (p .entry)) tau stride i j rows cols (now (a .entry)) ⌝ }
+    requires { ⌜ (1 ≤ rows) × (rows ≤ length (now p)) × (cols ≤ 48) × Block stride i j rows cols (now a) ⌝ }
+    ensures { λ _. ⌜ now (a .exit) ≡
+        reflectedLeft binary64 (now (p .entry)) tau stride i j rows cols (now (a .entry)) ⌝ }
 {
     let mut w = [0.0f64; 48];
     sum_columns(a, p, &mut w, stride, i, j, rows, cols);

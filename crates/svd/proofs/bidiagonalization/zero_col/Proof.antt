@@ -21,10 +21,10 @@ returns c =
 lapply-householder-requires : tie.Need-lapply-householder-requires
 lapply-householder-requires c κs =
     let st = c .before .before .before .before .before .before .before .before .before .before .before .before .before in
-    (omega arith, omega arith, omega arith, omega arith, omega arith, omega (arith, rows-left (st .args .i) (st .args .z .rows) (st .args .z .stride) (omega arith)))
+    (omega arith, omega arith, omega arith, record { wide = omega arith; few = omega arith; whole = omega (arith, rows-left (st .args .i) (st .args .z .rows) (st .args .z .stride) (omega arith)) })
 
 rapply-householder-requires : tie.Need-rapply-householder-requires
-rapply-householder-requires c κs = (omega arith, omega arith, omega arith, omega arith, omega arith)
+rapply-householder-requires c κs = (omega arith, omega arith, record { wide = omega arith; few = omega arith; whole = omega arith })
 
 returns-2 : tie.Need-returns-2
 returns-2 c =

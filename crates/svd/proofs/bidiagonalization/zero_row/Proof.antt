@@ -29,7 +29,7 @@ returns c =
 rapply-householder-requires : tie.Need-rapply-householder-requires
 rapply-householder-requires c κs =
     let st = c .before .before .before .before .before .before .before .before .before .before .before .before .before in
-    (omega arith, omega arith, omega arith, omega arith, omega (arith, rows-left (st .args .i + 1) (st .args .z .rows) (st .args .z .stride) (omega arith)))
+    (omega arith, omega arith, record { wide = omega arith; few = omega arith; whole = omega (arith, rows-left (st .args .i + 1) (st .args .z .rows) (st .args .z .stride) (omega arith)) })
 
 returns-2 : tie.Need-returns-2
 returns-2 c =

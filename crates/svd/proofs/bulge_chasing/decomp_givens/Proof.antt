@@ -18,7 +18,7 @@ abbrev μ-loop : tie.MeasureT-loop
 μ-loop b₀ u₀ v₀ z upper n s walk₀ made₀ b u v walk made = n - made
 
 loop-holds : tie.Need-loop-holds Inv-loop μ-loop
-loop-holds c = inv-start _ _ _ _ _ _ (c .before .before .before .pre .3)
+loop-holds c = inv-start _ _ _ _ _ _ (c .before .before .before .pre .1)
 
 is-negligible-requires : tie.Need-is-negligible-requires Inv-loop μ-loop
 is-negligible-requires c κs =
@@ -26,7 +26,7 @@ is-negligible-requires c κs =
     let at-loop-test = at-if1 .before .before in
     let lp = at-loop-test .before in
     let st = lp .before .before .before .before in
-    test-asks (st .pre .3) (lp .loop .inv) (at-loop-test .loop-test .taken) (ltb-true _ _ (at-if1 .if1 .taken)) (ltb-true _ _ (c .before .if2 .taken)) (st .pre .0)
+    test-asks (st .pre .1) (lp .loop .inv) (at-loop-test .loop-test .taken) (ltb-true _ _ (at-if1 .if1 .taken)) (ltb-true _ _ (c .before .if2 .taken)) (st .pre .0 .table)
 
 drop-requires : tie.Need-drop-requires Inv-loop μ-loop
 drop-requires c κs =
@@ -34,7 +34,7 @@ drop-requires c κs =
     let at-loop-test = at-if1 .before .before in
     let lp = at-loop-test .before in
     let st = lp .before .before .before .before in
-    (ltb-true _ _ (at-if1 .if1 .taken), search needs, inv-room (st .pre .3) (lp .loop .inv) (at-loop-test .loop-test .taken))
+    (ltb-true _ _ (at-if1 .if1 .taken), search needs, inv-room (st .pre .1) (lp .loop .inv) (at-loop-test .loop-test .taken))
 
 loop-again : tie.Need-loop-again Inv-loop μ-loop
 loop-again c =
@@ -43,7 +43,7 @@ loop-again c =
     let at-loop-test = at-if1 .before .before in
     let lp = at-loop-test .before in
     let st = lp .before .before .before .before in
-    inv-drop (st .pre .3) (lp .loop .inv) (at-loop-test .loop-test .taken) (ltb-true _ _ (at-if1 .if1 .taken)) (ltb-true _ _ (at-if2 .if2 .taken)) (c .drop .ensures .0) (c .drop .ensures .1) (sym (c .before .before .is-negligible .ensures) ∙ c .before .if3 .taken)
+    inv-drop (st .pre .1) (lp .loop .inv) (at-loop-test .loop-test .taken) (ltb-true _ _ (at-if1 .if1 .taken)) (ltb-true _ _ (at-if2 .if2 .taken)) (c .drop .ensures .0) (c .drop .ensures .1) (sym (c .before .before .is-negligible .ensures) ∙ c .before .if3 .taken)
 
 givens-iteration-requires : tie.Need-givens-iteration-requires Inv-loop μ-loop
 givens-iteration-requires c κs =
@@ -52,14 +52,14 @@ givens-iteration-requires c κs =
     let at-loop-test = at-if1 .before .before in
     let lp = at-loop-test .before in
     let st = lp .before .before .before .before in
-    sweep-asks (st .pre .3) (lp .loop .inv) (at-loop-test .loop-test .taken) (ltb-true _ _ (at-if1 .if1 .taken)) (ltb-true _ _ (at-if2 .if2 .taken)) (st .pre .0) (st .pre .1) (st .pre .2)
+    sweep-asks (st .pre .1) (lp .loop .inv) (at-loop-test .loop-test .taken) (ltb-true _ _ (at-if1 .if1 .taken)) (ltb-true _ _ (at-if2 .if2 .taken)) (st .pre .0)
 
 sweep-requires : tie.Need-sweep-requires Inv-loop μ-loop
 sweep-requires c κs =
     let at-loop-test = c .before .before .before .before .before .before .before .before .before .before .before .before .before .before .before .before .before .before in
     let lp = at-loop-test .before in
     let st = lp .before .before .before .before in
-    inv-room (st .pre .3) (lp .loop .inv) (at-loop-test .loop-test .taken)
+    inv-room (st .pre .1) (lp .loop .inv) (at-loop-test .loop-test .taken)
 
 loop-again-2 : tie.Need-loop-again-2 Inv-loop μ-loop
 loop-again-2 c =
@@ -71,7 +71,7 @@ loop-again-2 c =
     let at-loop-test = at-if1 .before .before in
     let lp = at-loop-test .before in
     let st = lp .before .before .before .before in
-    inv-sweep (st .pre .3) (lp .loop .inv) (at-loop-test .loop-test .taken) (ltb-true _ _ (at-if1 .if1 .taken)) (ltb-true _ _ (at-if2 .if2 .taken)) (c .sweep .ensures .0) (c .sweep .ensures .1) (at-givens-iteration .givens-iteration .ensures) (sym (at-is-negligible .is-negligible .ensures) ∙ at-if3 .if3 .left)
+    inv-sweep (st .pre .1) (lp .loop .inv) (at-loop-test .loop-test .taken) (ltb-true _ _ (at-if1 .if1 .taken)) (ltb-true _ _ (at-if2 .if2 .taken)) (c .sweep .ensures .0) (c .sweep .ensures .1) (at-givens-iteration .givens-iteration .ensures) (sym (at-is-negligible .is-negligible .ensures) ∙ at-if3 .if3 .left)
 
 returns : tie.Need-returns Inv-loop μ-loop
 returns c = inv-spent (c .before .before .before .before .before .before .loop .inv) (ltb-false _ _ (c .if2 .left))

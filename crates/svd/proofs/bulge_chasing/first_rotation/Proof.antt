@@ -10,7 +10,7 @@ use Rattle.svd.proofs.bulge_chasing.first_rotation.Tie as tie
 returns : tie.Need-returns
 returns c =
     let st = c .before .before .before .before .before .before .before .before .before in
-    firstRotation-is binary64 (st .args .stride) (st .args .upper) (st .args .k) _ (st .args .tl) (st .args .bl) (st .args .bl + 1) (st .args .tl + 1) _ _ _ (st .pre .5) (omega (arith, st .pre .5)) (st .pre .6) (omega (arith, st .pre .6)) (c .before .before .before .singular .ensures) (c .before .along .ensures) (c .implicit-givens-rotation .ensures)
+    firstRotation-is binary64 (st .args .stride) (st .args .upper) (st .args .k) _ (st .args .tl) (st .args .bl) (st .args .bl + 1) (st .args .tl + 1) _ _ _ (st .pre .2) (omega (arith, st .pre .2)) (st .pre .3) (omega (arith, st .pre .3)) (c .before .before .before .singular .ensures) (c .before .along .ensures) (c .implicit-givens-rotation .ensures)
 
 pub first-rotation-spec : {M : Type 1} → statement M
 first-rotation-spec = tie.close (tie.spec (λ c. search needs) (λ c. search needs) (λ c. search needs) (λ c. search needs) (λ c. search needs) (λ c. search needs) (λ c. search needs) (λ c. search needs) (λ c. search needs) (λ c. search needs) (λ c κs. search needs) (λ c. search needs) (λ c κs. search needs) (λ c κs. search needs) returns)

@@ -4,7 +4,7 @@ use mathlib.Core.Path.{_∙_}
 use native.Mathlib.Omega.{arith}
 use lib.Ieee.{binary64}
 use native.Mathlib.Nat.{mul-le-mul-right}
-use Rattle.svd.specs.Values.{sizes, roomy-kept, u-kept, v-kept}
+use Rattle.svd.specs.Values.{sizes, lending-kept}
 use Rattle.method.specs.Lengths.{onward, turned-kept, steps-kept}
 use Rattle.method.specs.Chase.{swept-is}
 use Rattle.svd.proofs.bulge_chasing.givens_iteration.Statement.{statement}
@@ -13,7 +13,7 @@ use Rattle.svd.proofs.bulge_chasing.givens_iteration.Tie as tie
 first-rotation-requires : tie.Need-first-rotation-requires
 first-rotation-requires c κs =
     let st = c .before .before .before .before in
-    (omega arith, omega arith, omega arith, omega arith, omega (arith, mul-le-mul-right (st .args .z .stride) (st .pre .0)), st .pre .5, st .pre .6)
+    (record { wide = omega arith; few = omega arith; whole = omega (arith, mul-le-mul-right (st .args .z .stride) (st .pre .0 .in-rows)) }, st .pre .1 .table .stride-few, st .pre .2, st .pre .3)
 
 push-requires : tie.Need-push-requires
 push-requires c κs =
@@ -21,7 +21,7 @@ push-requires c κs =
     let at-turn = at-chase .before .before .before .before .before .before .before .before .before .before in
     let st = c .before .before .before .before .before .before .before .before .before .before .before .before .before .before .before .before .before .before .before .before .before .before .before .before .before .before .before .before in
     let s = onward (turned-kept binary64 (sizes (st .args .z)) _ _ _ _ _ _ _ (at-turn .turn .ensures)) (steps-kept binary64 (sizes (st .args .z)) _ _ _ _ (at-chase .chase .ensures)) in
-    (omega arith, omega (arith, st .pre .0), omega (arith, st .pre .1), omega (arith, st .pre .0), omega (arith, st .pre .1), roomy-kept (sizes (st .args .z)) s (st .pre .2), u-kept (sizes (st .args .z)) s _ _ (st .pre .3), v-kept (sizes (st .args .z)) s _ _ (st .pre .4))
+    (omega arith, st .pre .0, st .pre .0, lending-kept s (st .pre .1))
 
 returns : tie.Need-returns
 returns c =

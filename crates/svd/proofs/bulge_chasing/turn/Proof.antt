@@ -10,12 +10,12 @@ use Rattle.svd.proofs.bulge_chasing.turn.Tie as tie
 apply-g-left-requires : tie.Need-apply-g-left-requires
 apply-g-left-requires c κs =
     let st = c .before .before .before .before .before in
-    (omega arith, omega arith, omega (arith, mul-le-mul-right (st .args .z .stride) (st .pre .0)))
+    record { wide = omega arith; few = omega arith; whole = omega (arith, mul-le-mul-right (st .args .z .stride) (st .pre .0 .in-rows)) }
 
 apply-gt-right-requires-2 : tie.Need-apply-gt-right-requires-2
 apply-gt-right-requires-2 c κs =
     let st = c .before .before .before .before .before in
-    (omega arith, omega arith, omega (arith, mul-le-mul-right (st .args .z .stride) (st .pre .2)))
+    record { wide = omega arith; few = omega arith; whole = omega (arith, mul-le-mul-right (st .args .z .stride) (st .pre .1 .in-rows)) }
 
 returns : tie.Need-returns
 unfolding turned

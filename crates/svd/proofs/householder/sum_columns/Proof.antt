@@ -27,11 +27,11 @@ add-copy-row c = let st = c .before .before .before .before in omega (arith, row
 copy-row-requires : tie.Need-copy-row-requires Inv-loop μ-loop
 copy-row-requires c κs =
     let st = c .before .before .before .before in
-    (omega (arith, row-fits (st .args .i) (st .args .stride) (st .pre .0)), omega arith, st .pre .6)
+    (omega (arith, row-fits (st .args .i) (st .args .stride) (st .pre .0)), omega arith, st .pre .4)
 
 loop-holds : tie.Need-loop-holds Inv-loop μ-loop
 unfolding rowsAdded
-loop-holds c = (omega arith, omega arith, omega (arith, blank-length _ (c .before .before .before .before .before .before .before .pre .6)), turns-none 1 _ _)
+loop-holds c = (omega arith, omega arith, omega (arith, blank-length _ (c .before .before .before .before .before .before .before .pre .4)), turns-none 1 _ _)
 
 add-off : tie.Need-add-off Inv-loop μ-loop
 add-off c =

@@ -5,7 +5,7 @@ use mathlib.Core.Bool.{true, false}
 use mathlib.Core.List.{[]}
 use Rattle.method.specs.Work.{work}
 use Rattle.checks.specs.Values.{settingsOf}
-use Rattle.svd.specs.Calls.{refused-call, accepted-call, call-fit, fit-roomy, lent-whole, lent-none}
+use Rattle.svd.specs.Calls.{refused-call, accepted-call, call-fit, fit-lending}
 use Rattle.svd.proofs.interface.full_svd_decomposition.Statement.{statement}
 use Rattle.svd.proofs.interface.full_svd_decomposition.Tie as tie
 
@@ -19,7 +19,7 @@ decompose-requires c κs =
     let at-first-refusal = c .before .before .before .before .before in
     let st = c .before .before .before .before .before .before .before .before .before .before .before .before in
     let f = call-fit true (st .args .rows) (st .args .cols) (settingsOf (st .args .settings)) (work (st .args .b .now) (st .args .u .now) (st .args .v .now)) _ (at-first-refusal .first-refusal .ensures) (c .before .before .before .if1 .left) in
-    (f .rows-some, f .cols-some, f .limit-low, f .credit-low, fit-roomy true (st .args .rows) (st .args .cols) (settingsOf (st .args .settings)) (work (st .args .b .now) (st .args .u .now) (st .args .v .now)) f, lent-whole _ _ (f .rows-few) (f .u-length refl), lent-whole _ _ (f .cols-few) (f .v-length refl))
+    (record { in-rows = f .rows-some; in-cols = f .cols-some }, f .limit-low, f .credit-low, fit-lending true (st .args .rows) (st .args .cols) _ _ f)
 
 returns-2 : tie.Need-returns-2
 returns-2 c =

@@ -5,7 +5,7 @@ use mathlib.Core.Bool.{true, false}
 use mathlib.Core.List.{[]}
 use Rattle.method.specs.Work.{work}
 use Rattle.checks.specs.Values.{settingsOf}
-use Rattle.svd.specs.Calls.{refused-call, accepted-call, call-fit, fit-roomy, lent-none, plain-call}
+use Rattle.svd.specs.Calls.{refused-call, accepted-call, call-fit, fit-lending, plain-call}
 use Rattle.svd.proofs.interface.svd_decomposition.Statement.{statement}
 use Rattle.svd.proofs.interface.svd_decomposition.Tie as tie
 
@@ -19,7 +19,7 @@ decompose-requires c κs =
     let at-first-refusal = c .before .before .before .before .before in
     let st = c .before .before .before .before .before .before .before .before .before .before in
     let f = call-fit false (st .args .rows) (st .args .cols) (settingsOf (st .args .settings)) (work (st .args .b .now) [] []) _ (at-first-refusal .first-refusal .ensures) (c .before .before .before .if1 .left) in
-    (f .rows-some, f .cols-some, f .limit-low, f .credit-low, fit-roomy false (st .args .rows) (st .args .cols) (settingsOf (st .args .settings)) (work (st .args .b .now) [] []) f, lent-none _ _, lent-none _ _)
+    (record { in-rows = f .rows-some; in-cols = f .cols-some }, f .limit-low, f .credit-low, fit-lending false (st .args .rows) (st .args .cols) _ _ f)
 
 returns-2 : tie.Need-returns-2
 returns-2 c =
