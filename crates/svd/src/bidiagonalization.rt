@@ -1,6 +1,8 @@
 // The bidiagonal form (svd/bidiagonalization.rs, with its twins in svd/verify.rs): columns are
 // cleared below their heads and rows past theirs, and U and V take the same reflections. The plain
 // call keeps no rows of U and V, so one function stands for each pair of twins.
+use crate::householder::clear_line;
+use crate::householder::copy_line;
 use crate::householder::lapply_householder;
 use crate::householder::params;
 use crate::householder::rapply_householder;
@@ -11,31 +13,9 @@ ghost use lib.ListN.{length};
 ghost use lib.Ieee.{binary64};
 ghost use Rattle.method.specs.Work.{work};
 ghost use Rattle.method.specs.Reflection.{blank, reflectionOf};
-ghost use Rattle.method.specs.Bidiagonal.{columnCopied, columnCleared, columnReflection, columnMatrix, rowMatrix};
+ghost use Rattle.method.specs.Bidiagonal.{columnReflection, columnMatrix, rowMatrix};
 ghost use Rattle.method.specs.Bidiagonal.{factorReflected, firstZeroed, thenZeroed, placesZeroed, bidiagonal};
 ghost use Rattle.svd.specs.Values.{sizes, Roomy, Lent, Lending, Inside, Taken};
-
-// The n entries of column j from row i on, into a blank vector.
-fn copy_col(b: &[f64], w: &mut [f64], stride: usize, i: usize, j: usize, n: usize)
-    requires { ⌜ (j < stride) × (i + n ≤ 48) × ((i + n) * stride ≤ length (now b)) × (now w ≡ blank) ⌝ }
-    ensures { λ _. ⌜ now (w .exit) ≡ columnCopied stride i j n (now (b .entry)) ⌝ }
-{
-    for k in 0..n {
-        let at = (i + k) * stride + j;
-        w[k] = b[at];
-    }
-}
-
-// Those entries, set to 0.
-fn clear_col(b: &mut [f64], stride: usize, i: usize, j: usize, n: usize)
-    requires { ⌜ (j < stride) × (i + n ≤ 48) × ((i + n) * stride ≤ length (now b)) ⌝ }
-    ensures { λ _. ⌜ now (b .exit) ≡ columnCleared stride i j n (now (b .entry)) ⌝ }
-{
-    for k in 0..n {
-        let at = (i + k) * stride + j;
-        b[at] = 0.0;
-    }
-}
 
 // Makes the reflection of column j from row i on: the column keeps the head that it leaves, below
 // the floor too; its vector goes into p, which comes blank, and its tau is handed back.
@@ -52,11 +32,11 @@ fn take_col(
     ensures { λ r. ⌜ Taken floor rows stride i j (now (b .entry)) (now (b .exit)) (now (p .exit)) r ⌝ }
 {
     let n = rows - i;
-    let mut w = [0.0f64; 48];
-    copy_col(b, &mut w, stride, i, j, n);
-    clear_col(b, stride, i, j, n);
-    let tau = params(&mut w, p, 0, n, floor);
     let head = i * stride + j;
+    let mut w = [0.0f64; 48];
+    copy_line(b, &mut w, head, stride, n);
+    clear_line(b, head, stride, n);
+    let tau = params(&mut w, p, 0, n, floor);
     b[head] = w[0];
     tau
 }

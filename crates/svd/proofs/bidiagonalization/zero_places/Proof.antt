@@ -1,10 +1,9 @@
--- After k turns the lists are `placesZeroed` of k places. Assumes nothing.
+-- `zero_places` meets its contract: after k turns the lists are `placesZeroed` of k places. Assumes nothing.
 use borrow.Author.Needs.{needs}
 use Prim.Native.Nat.{_+_, _-_, _*_, _<_, _≤_, zero-le}
 use mathlib.Core.Path.{_≡_, refl, ap, _∙_}
 use native.Mathlib.Omega.{arith}
 use native.Mathlib.Nat.{le-antisymm}
-use lib.ListN.{length, length-set}
 use lib.Ieee.{binary64}
 use Rattle.svd.specs.Values.{sizes, Lending}
 use Rattle.method.specs.Work.{work}

@@ -1,4 +1,4 @@
--- The bidiagonal form, and then passes enough. Assumes nothing.
+-- `decompose` meets its contract: the bidiagonal form, and then passes enough. Assumes nothing.
 use borrow.Author.Needs.{needs}
 use native.Mathlib.Omega.{arith}
 use lib.Ieee.{binary64}
@@ -13,9 +13,9 @@ decomp-givens-requires : tie.Need-decomp-givens-requires
 decomp-givens-requires c κs =
     let at-bidiagonal = c .before .before .before .before .before .before .before .before .before .before in
     let at-smaller-size = at-bidiagonal .before .before .before .before in
-    let st = c .before .before .before .before .before .before .before .before .before .before .before .before .before .before .before .before .before .before .before in
-    let k = bidiagonal-kept binary64 (st .args .s .floor) (sizes (st .args .z)) _ _ _ _ (at-bidiagonal .bidiagonal .ensures) in
-    (lending-kept k (st .pre .3), first-standing (sizes (st .args .z)) _ _ _ (at-smaller-size .smaller-size .ensures .2) (at-smaller-size .smaller-size .ensures .3) (c .before .before .before .new .ensures .0) (c .before .before .before .new .ensures .1))
+    let at-start = c .before .before .before .before .before .before .before .before .before .before .before .before .before .before .before .before .before .before .before in
+    let k = bidiagonal-kept binary64 (at-start .args .s .floor) (sizes (at-start .args .z)) _ _ _ _ (at-bidiagonal .bidiagonal .ensures) in
+    (lending-kept k (at-start .pre .3), first-standing (sizes (at-start .args .z)) _ _ _ (at-smaller-size .smaller-size .ensures .2) (at-smaller-size .smaller-size .ensures .3) (c .before .before .before .new .ensures .0) (c .before .before .before .new .ensures .1))
 
 returns : tie.Need-returns
 returns c =
@@ -23,8 +23,8 @@ returns c =
     let at-new = at-decomp-givens .before .before .before .before in
     let at-bidiagonal = at-new .before .before .before .before .before .before .before in
     let at-smaller-size = at-bidiagonal .before .before .before .before in
-    let st = c .before .before .before .before .before .before .before .before .before .before .before .before .before .before .before .before .before .before .before .before .before .before .before .before .before .before in
-    decomposed (sizes (st .args .z)) (settingsOf (st .args .s)) _ _ _ _ _ _ (at-smaller-size .smaller-size .ensures .0) (omega (arith, at-smaller-size .smaller-size .ensures .2, st .pre .3 .table .rows-few)) (st .pre .1) (st .pre .2) (at-bidiagonal .bidiagonal .ensures) (at-new .new .ensures .0) (at-decomp-givens .decomp-givens .ensures)
+    let at-start = c .before .before .before .before .before .before .before .before .before .before .before .before .before .before .before .before .before .before .before .before .before .before .before .before .before .before in
+    decomposed (sizes (at-start .args .z)) (settingsOf (at-start .args .s)) _ _ _ _ _ _ (at-smaller-size .smaller-size .ensures .0) (omega (arith, at-smaller-size .smaller-size .ensures .2, at-start .pre .3 .table .rows-few)) (at-start .pre .1) (at-start .pre .2) (at-bidiagonal .bidiagonal .ensures) (at-new .new .ensures .0) (at-decomp-givens .decomp-givens .ensures)
 
 pub decompose-spec : {M : Type 1} → statement M
 decompose-spec = tie.close (tie.spec (λ c κs. search needs) (λ c κs. search needs) (λ c κs. search needs) decomp-givens-requires (λ c. search needs) (λ c. search needs) (λ c. search needs) returns)
