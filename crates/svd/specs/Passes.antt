@@ -18,13 +18,12 @@ use Rattle.method.specs.Positions.{Placed, couplingPlace, cornerStart, beginPla
 use Rattle.method.specs.Outcome.{rulesOf, card, isUpper, walkedFrom, Settings}
 use Rattle.method.specs.Bidiagonal.{bidiagonal}
 use lib.Dec.{lit<}
-use Rattle.svd.specs.Values.{counts, corner, Roomy, Lending, lending-kept, Inside, Block}
+use Rattle.svd.specs.Values.{counts, corner, Lending, lending-kept, Inside, Block}
 use Rattle.svd.specs.declared.primitives.Walk.{Walk}
 
 -- a record from which n passes may be asked: its range lies in the table, its places are those of the range, and its counts have room
 pub record Standing (z : Sizes) (upper : Bool) (n : ℕ) (w : Walk) : Type 0 where
-  pub in-rows : w .range ≤ z .rows
-  pub in-cols : w .range ≤ z .cols
+  pub inside : Inside z (w .range)
   pub placed : Placed upper (z .stride) (corner w)
   pub room : Room n (counts w)
 
@@ -65,11 +64,10 @@ module _ {z : Sizes} {upper : Bool} {n : ℕ} {s : Settings} {first : Walk} {sta
   inv-room h = made-room (i .by) (q .room) h
 
   -- the range stays in the table
-  pub inv-rows : w .range ≤ z .rows
-  inv-rows = le-trans (made-moved (i .by) .range) (q .in-rows)
-
-  pub inv-cols : w .range ≤ z .cols
-  inv-cols = le-trans (made-moved (i .by) .range) (q .in-cols)
+  inv-inside : Inside z (w .range)
+  inv-inside =
+      let m = made-moved (i .by) .range in
+      record { in-rows = le-trans m (q .inside .in-rows); in-cols = le-trans m (q .inside .in-cols) }
 
   module _ (left : made < n) (wide : 1 < w .range) (below : w .counter < s .limit) where
     at : Here z upper w
@@ -113,16 +111,17 @@ module _ {z : Sizes} {upper : Bool} {n : ℕ} {s : Settings} {first : Walk} {sta
 
     -- what the test for a drop asks
     pub test-asks :
-        Roomy z (start .matrix) →
+        Lending z start →
         Block (z .stride) (w .inter) (w .inter) 2 2 (now .matrix)
         × (z .stride ≤ 64)
         × (w .e1 ≡ couplingPlace upper (z .stride) (w .inter))
         × (w .tl ≡ w .inter * z .stride + w .inter)
         × (w .bl ≡ (w .inter + 1) * z .stride + w .inter)
-    test-asks r =
-        let in-rows : w .inter + 2 ≤ z .rows = omega (arith, at .two, inv-rows) in (
+    test-asks l =
+        let r = l .table in
+        let in-rows : w .inter + 2 ≤ z .rows = omega (arith, at .two, inv-inside .in-rows) in (
           record {
-            wide = omega (arith, at .two, inv-cols, r .wide);
+            wide = omega (arith, at .two, inv-inside .in-cols, r .wide);
             few = le-trans in-rows (r .rows-few);
             whole = rw (i .same .matrix) (le-trans (mul-le-mul-right (z .stride) in-rows) (r .whole));
           },
@@ -140,7 +139,7 @@ module _ {z : Sizes} {upper : Bool} {n : ℕ} {s : Settings} {first : Walk} {sta
         × (w .tl ≡ w .inter * z .stride + w .inter)
         × (w .bl ≡ (w .inter + 1) * z .stride + w .inter)
     sweep-asks l = (
-      record { in-rows = omega (arith, at .two, inv-rows); in-cols = omega (arith, at .two, inv-cols) },
+      record { in-rows = omega (arith, at .two, inv-inside .in-rows); in-cols = omega (arith, at .two, inv-inside .in-cols) },
       lending-kept (i .same) l,
       at .topLeft,
       at .bottomLeft,
@@ -166,15 +165,13 @@ module _ {z : Sizes} {upper : Bool} {n : ℕ} {s : Settings} {first : Walk} {sta
 -- the walk's first record, over a diagonal of c entries, has room for 146,000 passes
 pub first-standing :
     (z : Sizes) (upper : Bool) (c : ℕ) (first : Walk) →
-    c ≤ z .rows →
-    c ≤ z .cols →
+    Inside z c →
     counts first ≡ begun c →
     corner first ≡ cornerStart upper (z .stride) c →
     Standing z upper 146000 first
-first-standing z upper c first hr hc ec eo =
+first-standing z upper c first h ec eo =
     record {
-      in-rows = rw (ap (λ (k : Counts). k .range) ec) hr;
-      in-cols = rw (ap (λ (k : Counts). k .range) ec) hc;
+      inside = rw (ap (λ (k : Counts). k .range) ec) h;
       placed = rw eo (beginPlaced upper (z .stride) c);
       room = rw ec (record { counter = lit< tt; passes = lit< tt; sweeps = lit< tt; drops = lit< tt });
     }

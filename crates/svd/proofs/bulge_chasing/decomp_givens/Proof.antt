@@ -26,7 +26,7 @@ is-negligible-requires c κs =
     let at-loop-test = at-if1 .before .before in
     let at-loop = at-loop-test .before in
     let at-start = at-loop .before .before .before .before in
-    test-asks (at-start .pre .1) (at-loop .loop .inv) (at-loop-test .loop-test .taken) (ltb-true _ _ (at-if1 .if1 .taken)) (ltb-true _ _ (c .before .if2 .taken)) (at-start .pre .0 .table)
+    test-asks (at-start .pre .1) (at-loop .loop .inv) (at-loop-test .loop-test .taken) (ltb-true _ _ (at-if1 .if1 .taken)) (ltb-true _ _ (c .before .if2 .taken)) (at-start .pre .0)
 
 drop-requires : tie.Need-drop-requires Inv-loop μ-loop
 drop-requires c κs =

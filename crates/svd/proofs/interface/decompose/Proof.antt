@@ -15,7 +15,7 @@ decomp-givens-requires c κs =
     let at-smaller-size = at-bidiagonal .before .before .before .before in
     let at-start = c .before .before .before .before .before .before .before .before .before .before .before .before .before .before .before .before .before .before .before in
     let k = bidiagonal-kept binary64 (at-start .args .s .floor) (sizes (at-start .args .z)) _ _ _ _ (at-bidiagonal .bidiagonal .ensures) in
-    (lending-kept k (at-start .pre .3), first-standing (sizes (at-start .args .z)) _ _ _ (at-smaller-size .smaller-size .ensures .2) (at-smaller-size .smaller-size .ensures .3) (c .before .before .before .new .ensures .0) (c .before .before .before .new .ensures .1))
+    (lending-kept k (at-start .pre .3), first-standing (sizes (at-start .args .z)) _ _ _ (record { in-rows = at-smaller-size .smaller-size .ensures .2; in-cols = at-smaller-size .smaller-size .ensures .3 }) (c .before .before .before .new .ensures .0) (c .before .before .before .new .ensures .1))
 
 returns : tie.Need-returns
 returns c =
