@@ -10,24 +10,16 @@ use lib.ListN.{getD, set}
 use lib.Ieee.{Float, nan, Format, eq}
 use Rattle.method.specs.Floats.{plusZero}
 use Rattle.method.specs.Turns.{turns}
-use Rattle.method.specs.Work.{Work, Shape, at}
-use Rattle.method.specs.Reflection.{Reflection, blank, reflectionOf, reflectedRight, reflectedLeft}
+use Rattle.method.specs.Work.{Work, Shape}
+use Rattle.method.specs.Reflection.{Reflection, lineCopied, lineCleared, reflectionOf, reflectedRight, reflectedLeft}
 
--- a blank vector with the n entries of column j from row i on
-unfoldable pub columnCopied : ℕ → ℕ → ℕ → ℕ → List Float → List Float
-columnCopied stride i j n a = turns 0 n (λ k w. set w k (at stride (i + k) j a)) blank
-
--- those entries set to +0
-unfoldable pub columnCleared : ℕ → ℕ → ℕ → ℕ → List Float → List Float
-columnCleared stride i j n a = turns 0 n (λ k a. set a ((i + k) * stride + j) plusZero) a
-
--- the reflection of column j from row i on, in a table of `rows` rows
+-- the reflection of column j from row i on, in a table of `rows` rows: a line whose entries stand `stride` apart
 abbrev pub columnReflection : Format → Float → ℕ → ℕ → ℕ → ℕ → List Float → Reflection
-columnReflection f floor rows stride i j a = reflectionOf f floor 0 (rows - i) (columnCopied stride i j (rows - i) a)
+columnReflection f floor rows stride i j a = reflectionOf f floor 0 (rows - i) (lineCopied (i * stride + j) stride (rows - i) a)
 
 -- column j set to +0 from row i on, but for the head that its reflection leaves
 abbrev pub headed : Reflection → ℕ → ℕ → ℕ → ℕ → List Float → List Float
-headed r rows stride i j a = set (columnCleared stride i j (rows - i) a) (i * stride + j) (getD (r .entries) 0 nan)
+headed r rows stride i j a = set (lineCleared (i * stride + j) stride (rows - i) a) (i * stride + j) (getD (r .entries) 0 nan)
 
 -- the table with column j cleared below row i, below the floor too; where tau is not 0, the columns right of it take the reflection
 unfoldable pub columnMatrix : Format → Float → ℕ → ℕ → ℕ → ℕ → ℕ → List Float → List Float

@@ -10,8 +10,8 @@ use Rattle.method.specs.Root.{wholeRoot, rooted, squareRoot}
 use Rattle.method.specs.Turns.{go, turns}
 use Rattle.method.specs.Work.{Work, work}
 use Rattle.method.specs.Rotation.{Rotation, rotationOf, pairTurned, rowsTurned, columnsTurned}
-use Rattle.method.specs.Reflection.{largestOf, scaled, cleared, squaresOf, tailTimes, reflectionOf, rowTimes, tailLess, rowLess, rowReflected, reflectedRight, rowCopied, rowAdded, rowsAdded, columnSums, allTimes, rowLessAll, rowLessTimes, lowerLess, rowsLess, reflectedLeft}
-use Rattle.method.specs.Bidiagonal.{columnCopied, columnCleared, columnMatrix, rowMatrix, factorReflected, columnZeroed, rowZeroed, placesZeroed, bidiagonal}
+use Rattle.method.specs.Reflection.{lineCopied, lineCleared, timesFrom, largestOf, scaled, squaresOf, reflectionOf, rowTimes, tailLess, rowLess, rowReflected, reflectedRight, rowAdded, rowsAdded, columnSums, rowLessAll, rowLessTimes, lowerLess, rowsLess, reflectedLeft}
+use Rattle.method.specs.Bidiagonal.{columnMatrix, rowMatrix, factorReflected, columnZeroed, rowZeroed, placesZeroed, bidiagonal}
 use Rattle.method.specs.Chase.{turned, singular, negligible, steps, swept}
 use Rattle.method.specs.Walk.{pass, run}
 use Rattle.method.specs.Checks.{firstOf, firstBad}
@@ -121,7 +121,7 @@ fourteen =
     ∷ []
 
 pub cases : (computed (ofBits binary64 0x0010_0000_0000_0000) ≡ fourteen) × (computed defaultFloor ≡ fourteen)
-unfolding ofBits toBits neg add sub mul div lt eq isNan magnitude signOf smaller larger squareRoot go turns rotationOf pairTurned rowsTurned columnsTurned largestOf scaled cleared squaresOf tailTimes reflectionOf rowTimes tailLess rowLess rowReflected reflectedRight rowCopied rowAdded rowsAdded columnSums allTimes rowLessAll rowLessTimes lowerLess rowsLess reflectedLeft columnCopied columnCleared columnMatrix rowMatrix factorReflected columnZeroed rowZeroed placesZeroed bidiagonal turned singular negligible steps swept pass run firstOf firstBad accepted outcome identity defaultTolerance defaultAbsolute defaultFloor
+unfolding ofBits toBits neg add sub mul div lt eq isNan magnitude signOf smaller larger squareRoot go turns rotationOf pairTurned rowsTurned columnsTurned lineCopied lineCleared timesFrom largestOf scaled squaresOf reflectionOf rowTimes tailLess rowLess rowReflected reflectedRight rowAdded rowsAdded columnSums rowLessAll rowLessTimes lowerLess rowsLess reflectedLeft columnMatrix rowMatrix factorReflected columnZeroed rowZeroed placesZeroed bidiagonal turned singular negligible steps swept pass run firstOf firstBad accepted outcome identity defaultTolerance defaultAbsolute defaultFloor
 cases = (refl, refl)
 
 -- ---- slips that a porter is drawn to, each with a row that shows it: the answers are the original's
@@ -180,5 +180,5 @@ original =
     ∷ []
 
 pub slips : shown ≡ original
-unfolding ofBits toBits neg add sub mul div lt eq isNan magnitude signOf smaller larger squareRoot go turns rotationOf pairTurned rowsTurned columnsTurned largestOf scaled cleared squaresOf tailTimes reflectionOf rowTimes tailLess rowLess rowReflected reflectedRight rowCopied rowAdded rowsAdded columnSums allTimes rowLessAll rowLessTimes lowerLess rowsLess reflectedLeft columnCopied columnCleared columnMatrix rowMatrix factorReflected columnZeroed rowZeroed placesZeroed bidiagonal turned singular negligible steps swept pass run firstOf firstBad accepted outcome identity defaultTolerance defaultAbsolute defaultFloor
+unfolding ofBits toBits neg add sub mul div lt eq isNan magnitude signOf smaller larger squareRoot go turns rotationOf pairTurned rowsTurned columnsTurned lineCopied lineCleared timesFrom largestOf scaled squaresOf reflectionOf rowTimes tailLess rowLess rowReflected reflectedRight rowAdded rowsAdded columnSums rowLessAll rowLessTimes lowerLess rowsLess reflectedLeft columnMatrix rowMatrix factorReflected columnZeroed rowZeroed placesZeroed bidiagonal turned singular negligible steps swept pass run firstOf firstBad accepted outcome identity defaultTolerance defaultAbsolute defaultFloor
 slips = refl

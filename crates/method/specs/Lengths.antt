@@ -5,14 +5,13 @@ use mathlib.Core.List.{List}
 use Prim.Native.Nat.{ℕ, _+_, _-_, _*_}
 use native.Mathlib.Omega.{arith}
 use lib.Dec.{eqb}
-use lib.ListN.{length, getD, set, length-set}
-use lib.Ieee.{Float, nan, Format, eq}
+use lib.ListN.{length, length-set}
+use lib.Ieee.{Float, Format, eq}
 use Rattle.method.specs.Floats.{plusZero}
-use Rattle.method.specs.Turns.{turns-keep}
 use Rattle.method.specs.Work.{Work, Shape, packed}
 use Rattle.method.specs.Rotation.{Rotation, rowsTurned-length, columnsTurned-length}
-use Rattle.method.specs.Reflection.{Reflection, blank, reflectionOf, reflectionOf-entries, reflectedRight-length, reflectedLeft-length}
-use Rattle.method.specs.Bidiagonal.{columnReflection, columnCopied, columnCleared, headed, columnMatrix, rowMatrix, factorReflected, columnZeroed, rowZeroed, firstZeroed, thenZeroed, placesZeroed, bidiagonal, column-still, column-moved, row-still, row-moved, factor-still, factor-moved}
+use Rattle.method.specs.Reflection.{Reflection, reflectionOf, lineCleared-length, reflectionOf-entries, reflectedRight-length, reflectedLeft-length}
+use Rattle.method.specs.Bidiagonal.{columnReflection, headed, columnMatrix, rowMatrix, factorReflected, columnZeroed, rowZeroed, firstZeroed, thenZeroed, placesZeroed, bidiagonal, column-still, column-moved, row-still, row-moved, factor-still, factor-moved}
 use Rattle.method.specs.Chase.{turned, pushed, stepped, steps, swept, firstRotation}
 use Rattle.method.specs.Relation.Alone.{Holds, bidiagonal-holds, steps-holds, swept-holds, run-holds}
 use Rattle.method.specs.Checks.{refusalOf}
@@ -34,13 +33,9 @@ onward p q = record { matrix = q .matrix ∙ p .matrix; u = q .u ∙ p .u; v = q
 
 -- ---- the bidiagonal form
 
-pub columnCleared-length : (stride i j n : ℕ) (a : List Float) → length (columnCleared stride i j n a) ≡ length a
-unfolding columnCleared
-columnCleared-length stride i j n a = turns-keep 0 _ (λ (l : List Float). length l ≡ length a) (λ k l e. simp length-set e) n a refl
-
 module _ (f : Format) (floor : Float) (rows cols stride i j : ℕ) (a : List Float) where
   headed-length : (r : Reflection) → length (headed r rows stride i j a) ≡ length a
-  headed-length r = simp length-set (columnCleared-length stride i j (rows - i) a)
+  headed-length r = simp length-set (lineCleared-length (i * stride + j) stride (rows - i) a)
 
   pub columnMatrix-length : length (columnMatrix f floor rows cols stride i j a) ≡ length a
   columnMatrix-length = go (eq (r .tau) plusZero) refl

@@ -17,6 +17,20 @@ blank = replicate 48 plusZero
 pub blank-length : (w : List Float) → w ≡ blank → length w ≡ 48
 blank-length w e = ap length e
 
+-- ---- a line: n entries from `at` on, `step` apart
+
+-- a blank vector with the line's entries
+unfoldable pub lineCopied : ℕ → ℕ → ℕ → List Float → List Float
+lineCopied at step n a = turns 0 n (λ k w. set w k (getD a (at + k * step) nan)) blank
+
+-- the line's entries set to +0
+unfoldable pub lineCleared : ℕ → ℕ → ℕ → List Float → List Float
+lineCleared at step n a = turns 0 n (λ k a. set a (at + k * step) plusZero) a
+
+-- entries lo to n - 1, each times x
+unfoldable pub timesFrom : Format → Float → ℕ → ℕ → List Float → List Float
+timesFrom f x lo n w = turns lo n (λ k w. set w k (mul f (getD w k nan) x)) w
+
 -- ---- the reflection of n entries
 
 -- the larger of m and |x|: a NaN is passed over
@@ -31,17 +45,9 @@ largestOf v at n = turns 0 n (λ k m. widened m (getD v (at + k) nan)) plusZero
 unfoldable pub scaled : Format → List Float → ℕ → Float → ℕ → List Float
 scaled f v at x n = turns 0 n (λ k w. set w k (mul f (getD v (at + k) nan) x)) blank
 
--- the n entries from `at` on set to +0
-unfoldable pub cleared : ℕ → ℕ → List Float → List Float
-cleared at n v = turns 0 n (λ k v. set v (at + k) plusZero) v
-
 -- the sum of the squares of the first n entries
 unfoldable pub squaresOf : Format → List Float → ℕ → Float
 squaresOf f w n = turns 0 n (λ k s. add f s (mul f (getD w k nan) (getD w k nan))) plusZero
-
--- entries 1 to n - 1, each times x
-unfoldable pub tailTimes : Format → Float → ℕ → List Float → List Float
-tailTimes f x n w = turns 1 n (λ k w. set w k (mul f (getD w k nan) x)) w
 
 -- what making a reflection leaves in the entries, its vector (whose head is 1) and its tau
 pub record Reflection : Type 0 where
@@ -57,8 +63,8 @@ signedLength f w n = mul f (signOf (getD w 0 nan)) (squareRoot f (squaresOf f w 
 abbrev pub reflectionBy : Format → List Float → ℕ → ℕ → Float → List Float → Float → Reflection
 reflectionBy f v at n largest w g =
     record {
-      entries = set (cleared at n v) at (mul f (neg g) largest);
-      vector = set (tailTimes f (div f one (add f (getD w 0 nan) g)) n w) 0 one;
+      entries = set (lineCleared at 1 n v) at (mul f (neg g) largest);
+      vector = set (timesFrom f (div f one (add f (getD w 0 nan) g)) 1 n w) 0 one;
       tau = div f (add f (getD w 0 nan) g) g;
     }
 
@@ -97,10 +103,6 @@ reflectedRight f p tau stride i j rows cols a = turns 0 rows (λ k. rowReflected
 
 -- ---- from the left: the rows' sum first, then each row less its share
 
--- a blank vector with the n entries from `off` on
-unfoldable pub rowCopied : ℕ → ℕ → List Float → List Float
-rowCopied off n a = turns 0 n (λ l w. set w l (getD a (off + l) nan)) blank
-
 -- w plus x times the row at `off`
 unfoldable pub rowAdded : Format → List Float → Float → ℕ → ℕ → List Float → List Float
 rowAdded f a x off n w = turns 0 n (λ l w. set w l (add f (getD w l nan) (mul f x (getD a (off + l) nan)))) w
@@ -111,11 +113,7 @@ rowsAdded f a p stride i j rows cols w = turns 1 rows (λ k. rowAdded f a (getD 
 
 -- row i plus p[1] times row i + 1 plus .. plus p[rows - 1] times row i + rows - 1
 unfoldable pub columnSums : Format → List Float → ℕ → ℕ → ℕ → ℕ → ℕ → List Float → List Float
-columnSums f p stride i j rows cols a = rowsAdded f a p stride i j rows cols (rowCopied (i * stride + j) cols a)
-
--- the first n entries, each times x
-unfoldable pub allTimes : Format → Float → ℕ → List Float → List Float
-allTimes f x n w = turns 0 n (λ l w. set w l (mul f (getD w l nan) x)) w
+columnSums f p stride i j rows cols a = rowsAdded f a p stride i j rows cols (lineCopied (i * stride + j) 1 cols a)
 
 -- the row at `off`, less w
 unfoldable pub rowLessAll : Format → List Float → ℕ → ℕ → List Float → List Float
@@ -135,7 +133,7 @@ rowsLess f p w stride i j rows cols a = lowerLess f p w stride i j rows cols (ro
 
 -- the reflection of the `rows` rows from i on, in the `cols` columns from j on
 unfoldable pub reflectedLeft : Format → List Float → Float → ℕ → ℕ → ℕ → ℕ → ℕ → List Float → List Float
-reflectedLeft f p tau stride i j rows cols a = rowsLess f p (allTimes f tau cols (columnSums f p stride i j rows cols a)) stride i j rows cols a
+reflectedLeft f p tau stride i j rows cols a = rowsLess f p (timesFrom f tau 0 cols (columnSums f p stride i j rows cols a)) stride i j rows cols a
 
 -- ---- the cases of a reflection
 
@@ -157,11 +155,11 @@ module _ (f : Format) (floor : Float) (at n : ℕ) (v : List Float) where
       largest ≡ largestOf v at n →
       lt largest floor ≡ false →
       w ≡ scaled f v at (div f one largest) n →
-      v′ ≡ cleared at n v →
+      v′ ≡ lineCleared at 1 n v →
       sum ≡ squaresOf f w n →
       sign ≡ signOf (getD w 0 nan) →
       root ≡ squareRoot f sum →
-      w′ ≡ tailTimes f (div f one (add f (getD w 0 nan) (mul f sign root))) n w →
+      w′ ≡ timesFrom f (div f one (add f (getD w 0 nan) (mul f sign root))) 1 n w →
       record {
         entries = set v′ at (mul f (neg (mul f sign root)) largest);
         vector = set w′ 0 one;
@@ -178,25 +176,21 @@ module _ (f : Format) (floor : Float) (at n : ℕ) (v : List Float) where
 stored : (lo : ℕ) (at : ℕ → ℕ) (x : ℕ → List Float → Float) (n : ℕ) (a : List Float) → length (turns lo n (λ k a. set a (at k) (x k a)) a) ≡ length a
 stored lo at x n a = turns-keep lo _ (λ (l : List Float). length l ≡ length a) (λ k l e. simp length-set e) n a refl
 
-pub cleared-length : (at n : ℕ) (v : List Float) → length (cleared at n v) ≡ length v
-unfolding cleared
-cleared-length at n v = stored 0 (λ k. at + k) (λ k a. plusZero) n v
+pub lineCleared-length : (at step n : ℕ) (a : List Float) → length (lineCleared at step n a) ≡ length a
+unfolding lineCleared
+lineCleared-length at step n a = stored 0 (λ k. at + k * step) (λ k a. plusZero) n a
 
 module _ (f : Format) where
   pub scaled-length : (v : List Float) (at : ℕ) (x : Float) (n : ℕ) → length (scaled f v at x n) ≡ 48
   unfolding scaled
   scaled-length v at x n = stored 0 (λ k. k) (λ k w. mul f (getD v (at + k) nan) x) n blank
 
-  pub tailTimes-length : (x : Float) (n : ℕ) (w : List Float) → length (tailTimes f x n w) ≡ length w
-  unfolding tailTimes
-  tailTimes-length x n w = stored 1 (λ k. k) (λ k w. mul f (getD w k nan) x) n w
-
   pub reflectionOf-entries : (floor : Float) (at n : ℕ) (v : List Float) → length (reflectionOf f floor at n v .entries) ≡ length v
   reflectionOf-entries floor at n v = go (lt (largestOf v at n) floor) refl
     where
       go : (b : Bool) → lt (largestOf v at n) floor ≡ b → length (reflectionOf f floor at n v .entries) ≡ length v
       go true e = rw (← reflection-small f floor at n v e) refl
-      go false e = rw (← reflection-large f floor at n v _ _ _ _ _ _ _ refl e refl refl refl refl refl refl) (simp length-set (cleared-length at n v))
+      go false e = rw (← reflection-large f floor at n v _ _ _ _ _ _ _ refl e refl refl refl refl refl refl) (simp length-set (lineCleared-length at 1 n v))
 
   pub rowLess-length : (p : List Float) (x : Float) (off n : ℕ) (a : List Float) → length (rowLess f p x off n a) ≡ length a
   unfolding rowLess tailLess

@@ -6,8 +6,8 @@ use Rattle.method.specs.Floats.{magnitude, signOf, smaller, larger}
 use Rattle.method.specs.Root.{squareRoot}
 use Rattle.method.specs.Turns.{go, turns}
 use Rattle.method.specs.Rotation.{rotationOf, pairTurned, rowsTurned, columnsTurned}
-use Rattle.method.specs.Reflection.{largestOf, scaled, cleared, squaresOf, tailTimes, reflectionOf, rowTimes, tailLess, rowLess, rowReflected, reflectedRight, rowCopied, rowAdded, rowsAdded, columnSums, allTimes, rowLessAll, rowLessTimes, lowerLess, rowsLess, reflectedLeft}
-use Rattle.method.specs.Bidiagonal.{columnCopied, columnCleared, columnMatrix, rowMatrix, factorReflected, columnZeroed, rowZeroed, placesZeroed, bidiagonal}
+use Rattle.method.specs.Reflection.{lineCopied, lineCleared, timesFrom, largestOf, scaled, squaresOf, reflectionOf, rowTimes, tailLess, rowLess, rowReflected, reflectedRight, rowAdded, rowsAdded, columnSums, rowLessAll, rowLessTimes, lowerLess, rowsLess, reflectedLeft}
+use Rattle.method.specs.Bidiagonal.{columnMatrix, rowMatrix, factorReflected, columnZeroed, rowZeroed, placesZeroed, bidiagonal}
 use Rattle.method.specs.Chase.{turned, singular, negligible, steps, swept}
 use Rattle.method.specs.Walk.{pass, run}
 use Rattle.method.specs.Checks.{firstOf, firstBad}
@@ -32,10 +32,10 @@ answer =
     ++ (67 ∷ 48 ∷ 49 ∷ 52 ∷ []) ++ twelve ++ (LF ∷ 48 ∷ 48 ∷ 48 ∷ 48 ∷ []) ++ twelve ++ (LF ∷ [])
 
 pub example : split (unended ++ (LF ∷ [])) ≡ answer
-unfolding ofBits toBits neg add sub mul div lt eq isNan magnitude signOf smaller larger squareRoot go turns rotationOf pairTurned rowsTurned columnsTurned largestOf scaled cleared squaresOf tailTimes reflectionOf rowTimes tailLess rowLess rowReflected reflectedRight rowCopied rowAdded rowsAdded columnSums allTimes rowLessAll rowLessTimes lowerLess rowsLess reflectedLeft columnCopied columnCleared columnMatrix rowMatrix factorReflected columnZeroed rowZeroed placesZeroed bidiagonal turned singular negligible steps swept pass run firstOf firstBad accepted outcome defaultTolerance defaultAbsolute defaultFloor _>>=_ when cut worth value decimal number pattern digit digits placesBy shown ending lineText countLine named entryLine rowLine short line andThen contents head body bodies reading hex rowText rowsText reportText refusedText outcomeText surveyText surveysText refusalText printed split
+unfolding ofBits toBits neg add sub mul div lt eq isNan magnitude signOf smaller larger squareRoot go turns rotationOf pairTurned rowsTurned columnsTurned lineCopied lineCleared timesFrom largestOf scaled squaresOf reflectionOf rowTimes tailLess rowLess rowReflected reflectedRight rowAdded rowsAdded columnSums rowLessAll rowLessTimes lowerLess rowsLess reflectedLeft columnMatrix rowMatrix factorReflected columnZeroed rowZeroed placesZeroed bidiagonal turned singular negligible steps swept pass run firstOf firstBad accepted outcome defaultTolerance defaultAbsolute defaultFloor _>>=_ when cut worth value decimal number pattern digit digits placesBy shown ending lineText countLine named entryLine rowLine short line andThen contents head body bodies reading hex rowText rowsText reportText refusedText outcomeText surveyText surveysText refusalText printed split
 example = refl
 
 -- without the last LF line 4 is malformed, and nothing else is printed: refused 9 4
 pub example-unended : split unended ≡ refusedWord ++ (space ∷ 57 ∷ space ∷ 52 ∷ LF ∷ [])
-unfolding ofBits toBits neg add sub mul div lt eq isNan magnitude signOf smaller larger squareRoot go turns rotationOf pairTurned rowsTurned columnsTurned largestOf scaled cleared squaresOf tailTimes reflectionOf rowTimes tailLess rowLess rowReflected reflectedRight rowCopied rowAdded rowsAdded columnSums allTimes rowLessAll rowLessTimes lowerLess rowsLess reflectedLeft columnCopied columnCleared columnMatrix rowMatrix factorReflected columnZeroed rowZeroed placesZeroed bidiagonal turned singular negligible steps swept pass run firstOf firstBad accepted outcome defaultTolerance defaultAbsolute defaultFloor _>>=_ when cut worth value decimal number pattern digit digits placesBy shown ending lineText countLine named entryLine rowLine short line andThen contents head body bodies reading hex rowText rowsText reportText refusedText outcomeText surveyText surveysText refusalText printed split
+unfolding ofBits toBits neg add sub mul div lt eq isNan magnitude signOf smaller larger squareRoot go turns rotationOf pairTurned rowsTurned columnsTurned lineCopied lineCleared timesFrom largestOf scaled squaresOf reflectionOf rowTimes tailLess rowLess rowReflected reflectedRight rowAdded rowsAdded columnSums rowLessAll rowLessTimes lowerLess rowsLess reflectedLeft columnMatrix rowMatrix factorReflected columnZeroed rowZeroed placesZeroed bidiagonal turned singular negligible steps swept pass run firstOf firstBad accepted outcome defaultTolerance defaultAbsolute defaultFloor _>>=_ when cut worth value decimal number pattern digit digits placesBy shown ending lineText countLine named entryLine rowLine short line andThen contents head body bodies reading hex rowText rowsText reportText refusedText outcomeText surveyText surveysText refusalText printed split
 example-unended = refl

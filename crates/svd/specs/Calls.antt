@@ -6,15 +6,16 @@ use Prim.Native.Nat.{ℕ, _*_, _≤_, zero-le}
 use native.Mathlib.Nat.{le-refl, le-of-eq, zero-mul}
 use lib.ListN.{length}
 use lib.Ieee.{Float, binary64}
+use Rattle.method.specs.Floats.{pick}
 use Rattle.method.specs.Work.{Work, work, packed}
 use Rattle.method.specs.Lengths.{SameLengths, outcome-lengths}
 use Rattle.method.specs.Walk.{Walk as Counts, State, stands}
-use Rattle.method.specs.Checks.{Refusal, refusalOf}
-use Rattle.method.specs.Outcome.{Report, Outcome, outcomeOf, refused, reported, walkedFrom, accepted, outcome}
 use Rattle.method.specs.Settings.{Settings}
+use Rattle.method.specs.Checks.{Refusal, refusalOf}
 use Rattle.method.specs.Checks.Table.{Fit, fit}
+use Rattle.method.specs.Outcome.{Report, Outcome, outcomeOf, refused, reported, walkedFrom, accepted, outcome}
 use Rattle.method.specs.Outcome.Refused.{refused-outcome, accepted-outcome}
-use Rattle.svd.specs.Values.{Roomy, Lent}
+use Rattle.svd.specs.Values.{Lent, Lending}
 use native.Mathlib.Omega.{arith}
 
 -- ---- the two ways out of a call
@@ -48,23 +49,26 @@ module _ (kept : Bool) (rows cols : ℕ) (s : Settings) (w : Work) where
   pub call-fit : (r : Refusal) → r ≡ refusalOf kept rows cols s w → r .number ≡ 0 → Fit kept rows cols s w
   call-fit r e none = fit kept rows cols s w (ap (λ (x : Refusal). x .number) (sym e) ∙ none)
 
-  -- the packed table lies in its list
-  pub fit-roomy : Fit kept rows cols s w → Roomy (packed kept rows cols) (w .matrix)
-  fit-roomy f =
-      record {
-        rows-few = f .rows-few;
-        cols-few = f .cols-few;
-        stride-few = omega (arith, f .cols-few);
-        wide = le-refl cols;
-        whole = le-of-eq (sym (f .matrix-length));
-      }
+-- a square factor of which all rows are kept, or none, lies in its list
+kept-lent : (kept : Bool) (n : ℕ) (a : List Float) → n ≤ 48 → (kept ≡ true → length a ≡ n * n) → Lent n (pick kept n 0) a
+kept-lent true n a h e = record { few = h; whole = le-of-eq (sym (e refl)) }
+kept-lent false n a h e = record { few = zero-le; whole = rw zero-mul zero-le }
 
--- a whole square factor lies in its list, and so does one of which nothing is kept
-pub lent-whole : (n : ℕ) (a : List Float) → n ≤ 48 → length a ≡ n * n → Lent n n a
-lent-whole n a h e = record { few = h; whole = le-of-eq (sym e) }
-
-pub lent-none : (n : ℕ) (a : List Float) → Lent n 0 a
-lent-none n a = record { few = zero-le; whole = rw zero-mul zero-le }
+-- and so do the packed table and both factors
+pub fit-lending : (kept : Bool) (rows cols : ℕ) (s : Settings) (w : Work) → Fit kept rows cols s w → Lending (packed kept rows cols) w
+fit-lending kept rows cols s w f =
+    record {
+      table =
+          record {
+            rows-few = f .rows-few;
+            cols-few = f .cols-few;
+            stride-few = omega (arith, f .cols-few);
+            wide = le-refl cols;
+            whole = le-of-eq (sym (f .matrix-length));
+          };
+      u = kept-lent kept rows (w .u) (f .rows-few) (f .u-length);
+      v = kept-lent kept cols (w .v) (f .cols-few) (f .v-length);
+    }
 
 -- ---- the plain call lends two empty lists of its own
 

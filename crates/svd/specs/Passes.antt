@@ -19,13 +19,12 @@ use Rattle.method.specs.Outcome.{rulesOf, card, isUpper, walkedFrom}
 use Rattle.method.specs.Settings.{Settings}
 use Rattle.method.specs.Bidiagonal.{bidiagonal}
 use lib.Dec.{lit<}
-use Rattle.svd.specs.Values.{counts, corner, Roomy, Lent, roomy-kept, u-kept, v-kept}
+use Rattle.svd.specs.Values.{counts, corner, Lending, lending-kept, Inside, Block}
 use Rattle.svd.specs.declared.primitives.Walk.{Walk}
 
 -- a record from which n passes may be asked: its range lies in the table, its places are those of the range, and its counts have room
 pub record Standing (z : Sizes) (upper : Bool) (n : ℕ) (w : Walk) : Type 0 where
-  pub in-rows : w .range ≤ z .rows
-  pub in-cols : w .range ≤ z .cols
+  pub inside : Inside z (w .range)
   pub placed : Placed upper (z .stride) (corner w)
   pub room : Room n (counts w)
 
@@ -66,11 +65,10 @@ module _ {z : Sizes} {upper : Bool} {n : ℕ} {s : Settings} {first : Walk} {sta
   inv-room h = made-room (i .by) (q .room) h
 
   -- the range stays in the table
-  pub inv-rows : w .range ≤ z .rows
-  inv-rows = le-trans (made-moved (i .by) .range) (q .in-rows)
-
-  pub inv-cols : w .range ≤ z .cols
-  inv-cols = le-trans (made-moved (i .by) .range) (q .in-cols)
+  inv-inside : Inside z (w .range)
+  inv-inside =
+      let m = made-moved (i .by) .range in
+      record { in-rows = le-trans m (q .inside .in-rows); in-cols = le-trans m (q .inside .in-cols) }
 
   module _ (left : made < n) (wide : 1 < w .range) (below : w .counter < s .limit) where
     at : Here z upper w
@@ -114,42 +112,36 @@ module _ {z : Sizes} {upper : Bool} {n : ℕ} {s : Settings} {first : Walk} {sta
 
     -- what the test for a drop asks
     pub test-asks :
-        Roomy z (start .matrix) →
-        (w .inter + 2 ≤ z .stride)
-        × (w .inter ≤ 46)
+        Lending z start →
+        Block (z .stride) (w .inter) (w .inter) 2 2 (now .matrix)
         × (z .stride ≤ 64)
-        × ((w .inter + 2) * z .stride ≤ length (now .matrix))
         × (w .e1 ≡ couplingPlace upper (z .stride) (w .inter))
         × (w .tl ≡ w .inter * z .stride + w .inter)
         × (w .bl ≡ (w .inter + 1) * z .stride + w .inter)
-    test-asks r = (
-      omega (arith, at .two, inv-cols, r .wide),
-      omega (arith, at .two, inv-cols, r .cols-few),
-      r .stride-few,
-      rw (i .same .matrix) (le-trans (mul-le-mul-right (z .stride) (let l : w .inter + 2 ≤ z .rows = omega (arith, at .two, inv-rows) in l)) (r .whole)),
-      at .coupling,
-      at .topLeft,
-      at .bottomLeft,
-    )
+    test-asks l =
+        let r = l .table in
+        let in-rows : w .inter + 2 ≤ z .rows = omega (arith, at .two, inv-inside .in-rows) in (
+          record {
+            wide = omega (arith, at .two, inv-inside .in-cols, r .wide);
+            few = le-trans in-rows (r .rows-few);
+            whole = rw (i .same .matrix) (le-trans (mul-le-mul-right (z .stride) in-rows) (r .whole));
+          },
+          r .stride-few,
+          at .coupling,
+          at .topLeft,
+          at .bottomLeft,
+        )
 
     -- what a sweep asks
     pub sweep-asks :
-        Roomy z (start .matrix) →
-        Lent (z .rows) (z .urows) (start .u) →
-        Lent (z .cols) (z .vrows) (start .v) →
-        (w .inter + 2 ≤ z .rows)
-        × (w .inter + 2 ≤ z .cols)
-        × Roomy z (now .matrix)
-        × Lent (z .rows) (z .urows) (now .u)
-        × Lent (z .cols) (z .vrows) (now .v)
+        Lending z start →
+        Inside z (w .inter + 2)
+        × Lending z now
         × (w .tl ≡ w .inter * z .stride + w .inter)
         × (w .bl ≡ (w .inter + 1) * z .stride + w .inter)
-    sweep-asks r lu lv = (
-      omega (arith, at .two, inv-rows),
-      omega (arith, at .two, inv-cols),
-      roomy-kept z (i .same) r,
-      u-kept z (i .same) _ _ lu,
-      v-kept z (i .same) _ _ lv,
+    sweep-asks l = (
+      record { in-rows = omega (arith, at .two, inv-inside .in-rows); in-cols = omega (arith, at .two, inv-inside .in-cols) },
+      lending-kept (i .same) l,
       at .topLeft,
       at .bottomLeft,
     )
@@ -174,15 +166,13 @@ module _ {z : Sizes} {upper : Bool} {n : ℕ} {s : Settings} {first : Walk} {sta
 -- the walk's first record, over a diagonal of c entries, has room for 146,000 passes
 pub first-standing :
     (z : Sizes) (upper : Bool) (c : ℕ) (first : Walk) →
-    c ≤ z .rows →
-    c ≤ z .cols →
+    Inside z c →
     counts first ≡ begun c →
     corner first ≡ cornerStart upper (z .stride) c →
     Standing z upper 146000 first
-first-standing z upper c first hr hc ec eo =
+first-standing z upper c first h ec eo =
     record {
-      in-rows = rw (ap (λ (k : Counts). k .range) ec) hr;
-      in-cols = rw (ap (λ (k : Counts). k .range) ec) hc;
+      inside = rw (ap (λ (k : Counts). k .range) ec) h;
       placed = rw eo (beginPlaced upper (z .stride) c);
       room = rw ec (record { counter = lit< tt; passes = lit< tt; sweeps = lit< tt; drops = lit< tt });
     }

@@ -1,6 +1,6 @@
--- The code's values as the method's. Definitions only.
+-- The code's values as the method's, and what the kernels ask of the lists they are lent. Assumes nothing.
 use mathlib.Core.List.{List}
-use Prim.Native.Nat.{ℕ, _*_, _≤_}
+use Prim.Native.Nat.{ℕ, _+_, _*_, _≤_}
 use lib.ListN.{length}
 use mathlib.Core.Path.{_≡_}
 use lib.Ieee.{Float, binary64}
@@ -79,20 +79,36 @@ pub record Lent (n kept : ℕ) (a : List Float) : Type 0 where
   pub few : kept ≤ 48
   pub whole : kept * n ≤ length a
 
--- both go by the lengths alone
-module _ (z : Sizes) {w w′ : Work} (s : SameLengths w w′) where
-  pub roomy-kept : Roomy z (w .matrix) → Roomy z (w′ .matrix)
-  roomy-kept r =
-      record {
-        rows-few = r .rows-few;
-        cols-few = r .cols-few;
-        stride-few = r .stride-few;
-        wide = r .wide;
-        whole = rw (s .matrix) (r .whole);
-      }
+-- so with the table and both factors
+pub record Lending (z : Sizes) (w : Work) : Type 0 where
+  pub table : Roomy z (w .matrix)
+  pub u : Lent (z .rows) (z .urows) (w .u)
+  pub v : Lent (z .cols) (z .vrows) (w .v)
 
-  pub u-kept : (n kept : ℕ) → Lent n kept (w .u) → Lent n kept (w′ .u)
-  u-kept n kept l = record { few = l .few; whole = rw (s .u) (l .whole) }
+-- which goes by the lengths alone
+pub lending-kept : {z : Sizes} {w w′ : Work} → SameLengths w w′ → Lending z w → Lending z w′
+lending-kept s l =
+    let t = l .table in
+    record {
+      table =
+          record {
+            rows-few = t .rows-few;
+            cols-few = t .cols-few;
+            stride-few = t .stride-few;
+            wide = t .wide;
+            whole = rw (s .matrix) (t .whole);
+          };
+      u = record { few = l .u .few; whole = rw (s .u) (l .u .whole) };
+      v = record { few = l .v .few; whole = rw (s .v) (l .v .whole) };
+    }
 
-  pub v-kept : (n kept : ℕ) → Lent n kept (w .v) → Lent n kept (w′ .v)
-  v-kept n kept l = record { few = l .few; whole = rw (s .v) (l .whole) }
+-- the table has n rows and n columns, or more
+pub record Inside (z : Sizes) (n : ℕ) : Type 0 where
+  pub in-rows : n ≤ z .rows
+  pub in-cols : n ≤ z .cols
+
+-- `rows` rows from i on, in the `cols` columns from j on, lie in a list, in rows of `stride` entries
+pub record Block (stride i j rows cols : ℕ) (a : List Float) : Type 0 where
+  pub wide : j + cols ≤ stride
+  pub few : i + rows ≤ 48
+  pub whole : (i + rows) * stride ≤ length a

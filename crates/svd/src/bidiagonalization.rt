@@ -1,6 +1,8 @@
 // The bidiagonal form (svd/bidiagonalization.rs, with its twins in svd/verify.rs): columns are
 // cleared below their heads and rows past theirs, and U and V take the same reflections. The plain
 // call keeps no rows of U and V, so one function stands for each pair of twins.
+use crate::householder::clear_line;
+use crate::householder::copy_line;
 use crate::householder::lapply_householder;
 use crate::householder::params;
 use crate::householder::rapply_householder;
@@ -11,30 +13,9 @@ ghost use lib.ListN.{length};
 ghost use lib.Ieee.{binary64};
 ghost use Rattle.method.specs.Work.{work};
 ghost use Rattle.method.specs.Reflection.{blank, reflectionOf};
-ghost use Rattle.method.specs.Bidiagonal.{columnCopied, columnCleared, columnReflection, columnMatrix, rowMatrix, factorReflected, firstZeroed, thenZeroed, placesZeroed, bidiagonal};
-ghost use Rattle.svd.specs.Values.{sizes, Roomy, Lent, Taken};
-
-// The n entries of column j from row i on, into a blank vector.
-fn copy_col(b: &[f64], w: &mut [f64], stride: usize, i: usize, j: usize, n: usize)
-    requires { ⌜ (j < stride) × (i + n ≤ 48) × ((i + n) * stride ≤ length (now b)) × (now w ≡ blank) ⌝ }
-    ensures { λ _. ⌜ now (w .exit) ≡ columnCopied stride i j n (now (b .entry)) ⌝ }
-{
-    for k in 0..n {
-        let at = (i + k) * stride + j;
-        w[k] = b[at];
-    }
-}
-
-// Those entries, set to 0.
-fn clear_col(b: &mut [f64], stride: usize, i: usize, j: usize, n: usize)
-    requires { ⌜ (j < stride) × (i + n ≤ 48) × ((i + n) * stride ≤ length (now b)) ⌝ }
-    ensures { λ _. ⌜ now (b .exit) ≡ columnCleared stride i j n (now (b .entry)) ⌝ }
-{
-    for k in 0..n {
-        let at = (i + k) * stride + j;
-        b[at] = 0.0;
-    }
-}
+ghost use Rattle.method.specs.Bidiagonal.{columnReflection, columnMatrix, rowMatrix};
+ghost use Rattle.method.specs.Bidiagonal.{factorReflected, firstZeroed, thenZeroed, placesZeroed, bidiagonal};
+ghost use Rattle.svd.specs.Values.{sizes, Roomy, Lent, Lending, Inside, Taken};
 
 // Makes the reflection of column j from row i on: the column keeps the head that it leaves, below
 // the floor too; its vector goes into p, which comes blank, and its tau is handed back.
@@ -51,11 +32,11 @@ fn take_col(
     ensures { λ r. ⌜ Taken floor rows stride i j (now (b .entry)) (now (b .exit)) (now (p .exit)) r ⌝ }
 {
     let n = rows - i;
-    let mut w = [0.0f64; 48];
-    copy_col(b, &mut w, stride, i, j, n);
-    clear_col(b, stride, i, j, n);
-    let tau = params(&mut w, p, 0, n, floor);
     let head = i * stride + j;
+    let mut w = [0.0f64; 48];
+    copy_line(b, &mut w, head, stride, n);
+    clear_line(b, head, stride, n);
+    let tau = params(&mut w, p, 0, n, floor);
     b[head] = w[0];
     tau
 }
@@ -64,7 +45,9 @@ fn take_col(
 fn zero_col(b: &mut [f64], u: &mut [f64], z: Shape, i: usize, j: usize, floor: f64)
     requires { ⌜ (i < z .rows) × (j < z .cols) × Roomy (sizes z) (now b) × Lent (z .rows) (z .urows) (now u) ⌝ }
     ensures { λ _. ⌜ (now (b .exit) ≡ columnMatrix binary64 floor (z .rows) (z .cols) (z .stride) i j (now (b .entry)))
-        × (now (u .exit) ≡ factorReflected binary64 (columnReflection binary64 floor (z .rows) (z .stride) i j (now (b .entry))) (z .rows) (z .urows) i (now (u .entry))) ⌝ }
+        × (now (u .exit) ≡
+        factorReflected binary64 (columnReflection binary64 floor (z .rows) (z .stride) i j (now (b .entry)))
+        (z .rows) (z .urows) i (now (u .entry))) ⌝ }
 {
     let stride = z.stride;
     let n = z.rows - i;
@@ -82,7 +65,9 @@ fn zero_col(b: &mut [f64], u: &mut [f64], z: Shape, i: usize, j: usize, floor: f
 fn zero_row(b: &mut [f64], v: &mut [f64], z: Shape, i: usize, j: usize, floor: f64)
     requires { ⌜ (i < z .rows) × (j < z .cols) × Roomy (sizes z) (now b) × Lent (z .cols) (z .vrows) (now v) ⌝ }
     ensures { λ _. ⌜ (now (b .exit) ≡ rowMatrix binary64 floor (z .rows) (z .cols) (z .stride) i j (now (b .entry)))
-        × (now (v .exit) ≡ factorReflected binary64 (reflectionOf binary64 floor (i * z .stride + j) (z .cols - j) (now (b .entry))) (z .cols) (z .vrows) j (now (v .entry))) ⌝ }
+        × (now (v .exit) ≡
+        factorReflected binary64 (reflectionOf binary64 floor (i * z .stride + j) (z .cols - j) (now (b .entry)))
+        (z .cols) (z .vrows) j (now (v .entry))) ⌝ }
 {
     let stride = z.stride;
     let n = z.cols - j;
@@ -107,8 +92,9 @@ fn zero_first(
     k: usize,
     floor: f64,
 )
-    requires { ⌜ (k < z .rows) × (k < z .cols) × Roomy (sizes z) (now b) × Lent (z .rows) (z .urows) (now u) × Lent (z .cols) (z .vrows) (now v) ⌝ }
-    ensures { λ _. ⌜ work (now (b .exit)) (now (u .exit)) (now (v .exit)) ≡ firstZeroed binary64 floor (sizes z) upper k (work (now (b .entry)) (now (u .entry)) (now (v .entry))) ⌝ }
+    requires { ⌜ Inside (sizes z) (k + 1) × Lending (sizes z) (work (now b) (now u) (now v)) ⌝ }
+    ensures { λ _. ⌜ work (now (b .exit)) (now (u .exit)) (now (v .exit)) ≡
+        firstZeroed binary64 floor (sizes z) upper k (work (now (b .entry)) (now (u .entry)) (now (v .entry))) ⌝ }
 {
     if upper {
         zero_col(b, u, z, k, k, floor);
@@ -127,8 +113,9 @@ fn zero_then(
     k: usize,
     floor: f64,
 )
-    requires { ⌜ (k + 1 < z .rows) × (k + 1 < z .cols) × Roomy (sizes z) (now b) × Lent (z .rows) (z .urows) (now u) × Lent (z .cols) (z .vrows) (now v) ⌝ }
-    ensures { λ _. ⌜ work (now (b .exit)) (now (u .exit)) (now (v .exit)) ≡ thenZeroed binary64 floor (sizes z) upper k (work (now (b .entry)) (now (u .entry)) (now (v .entry))) ⌝ }
+    requires { ⌜ Inside (sizes z) (k + 2) × Lending (sizes z) (work (now b) (now u) (now v)) ⌝ }
+    ensures { λ _. ⌜ work (now (b .exit)) (now (u .exit)) (now (v .exit)) ≡
+        thenZeroed binary64 floor (sizes z) upper k (work (now (b .entry)) (now (u .entry)) (now (v .entry))) ⌝ }
 {
     if upper {
         zero_row(b, v, z, k, k + 1, floor);
@@ -147,8 +134,9 @@ fn zero_places(
     pivot: usize,
     floor: f64,
 )
-    requires { ⌜ (pivot < z .rows) × (pivot < z .cols) × Roomy (sizes z) (now b) × Lent (z .rows) (z .urows) (now u) × Lent (z .cols) (z .vrows) (now v) ⌝ }
-    ensures { λ _. ⌜ work (now (b .exit)) (now (u .exit)) (now (v .exit)) ≡ placesZeroed binary64 floor (sizes z) upper pivot (work (now (b .entry)) (now (u .entry)) (now (v .entry))) ⌝ }
+    requires { ⌜ Inside (sizes z) (pivot + 1) × Lending (sizes z) (work (now b) (now u) (now v)) ⌝ }
+    ensures { λ _. ⌜ work (now (b .exit)) (now (u .exit)) (now (v .exit)) ≡
+        placesZeroed binary64 floor (sizes z) upper pivot (work (now (b .entry)) (now (u .entry)) (now (v .entry))) ⌝ }
 {
     for k in 0..pivot {
         zero_first(b, u, v, z, upper, k, floor);
@@ -166,8 +154,9 @@ pub(crate) fn bidiagonal(
     card: usize,
     floor: f64,
 )
-    requires { ⌜ (1 ≤ card) × (card ≤ z .rows) × (card ≤ z .cols) × Roomy (sizes z) (now b) × Lent (z .rows) (z .urows) (now u) × Lent (z .cols) (z .vrows) (now v) ⌝ }
-    ensures { λ _. ⌜ work (now (b .exit)) (now (u .exit)) (now (v .exit)) ≡ bidiagonal binary64 floor (sizes z) upper card (work (now (b .entry)) (now (u .entry)) (now (v .entry))) ⌝ }
+    requires { ⌜ (1 ≤ card) × Inside (sizes z) card × Lending (sizes z) (work (now b) (now u) (now v)) ⌝ }
+    ensures { λ _. ⌜ work (now (b .exit)) (now (u .exit)) (now (v .exit)) ≡
+        bidiagonal binary64 floor (sizes z) upper card (work (now (b .entry)) (now (u .entry)) (now (v .entry))) ⌝ }
 {
     let pivot = card - 1;
     zero_places(b, u, v, z, upper, pivot, floor);

@@ -20,7 +20,7 @@ ghost use Rattle.method.specs.Walk.Loop.{Room};
 ghost use Rattle.method.specs.Positions.{couplingPlace};
 ghost use Rattle.method.specs.Chase.{along, turned, pushed, stepped, steps, negligible, firstRotation, swept};
 ghost use Rattle.method.specs.Outcome.{rulesOf};
-ghost use Rattle.svd.specs.Values.{rotation, sizes, counts, Roomy, Lent};
+ghost use Rattle.svd.specs.Values.{rotation, sizes, counts, Lending, Inside, Block};
 ghost use Rattle.svd.specs.Passes.{Standing};
 
 // Entry j of line i, a row or a column.
@@ -49,8 +49,11 @@ fn turn(
     j: usize,
     n: usize,
 )
-    requires { ⌜ (i + 2 ≤ z .rows) × (i + 2 ≤ z .cols) × (j + n ≤ z .rows) × (j + n ≤ z .cols) × Roomy (sizes z) (now b) × Lent (z .rows) (z .urows) (now u) × Lent (z .cols) (z .vrows) (now v) ⌝ }
-    ensures { λ _. ⌜ work (now (b .exit)) (now (u .exit)) (now (v .exit)) ≡ turned binary64 (sizes z) (rotation g) rowwise i j n (work (now (b .entry)) (now (u .entry)) (now (v .entry))) ⌝ }
+    requires { ⌜ Inside (sizes z) (i + 2) × Inside (sizes z) (j + n)
+        × Lending (sizes z) (work (now b) (now u) (now v)) ⌝ }
+    ensures { λ _. ⌜ work (now (b .exit)) (now (u .exit)) (now (v .exit)) ≡
+        turned binary64 (sizes z) (rotation g) rowwise i j n
+        (work (now (b .entry)) (now (u .entry)) (now (v .entry))) ⌝ }
 {
     if rowwise {
         apply_g_left(b, g, z.stride, i, j, n);
@@ -72,8 +75,10 @@ fn push(
     j: usize,
     n: usize,
 )
-    requires { ⌜ (1 ≤ n) × (i + 2 ≤ z .rows) × (i + 2 ≤ z .cols) × (j + n ≤ z .rows) × (j + n ≤ z .cols) × Roomy (sizes z) (now b) × Lent (z .rows) (z .urows) (now u) × Lent (z .cols) (z .vrows) (now v) ⌝ }
-    ensures { λ _. ⌜ work (now (b .exit)) (now (u .exit)) (now (v .exit)) ≡ pushed binary64 (sizes z) rowwise i j n (work (now (b .entry)) (now (u .entry)) (now (v .entry))) ⌝ }
+    requires { ⌜ (1 ≤ n) × Inside (sizes z) (i + 2) × Inside (sizes z) (j + n)
+        × Lending (sizes z) (work (now b) (now u) (now v)) ⌝ }
+    ensures { λ _. ⌜ work (now (b .exit)) (now (u .exit)) (now (v .exit)) ≡
+        pushed binary64 (sizes z) rowwise i j n (work (now (b .entry)) (now (u .entry)) (now (v .entry))) ⌝ }
 {
     let x = along(b, z.stride, rowwise, i, j);
     let y = along(b, z.stride, rowwise, i + 1, j);
@@ -83,8 +88,9 @@ fn push(
 
 // One step down the diagonal.
 fn step(b: &mut [f64], u: &mut [f64], v: &mut [f64], z: Shape, upper: bool, k: usize)
-    requires { ⌜ (k + 3 ≤ z .rows) × (k + 3 ≤ z .cols) × Roomy (sizes z) (now b) × Lent (z .rows) (z .urows) (now u) × Lent (z .cols) (z .vrows) (now v) ⌝ }
-    ensures { λ _. ⌜ work (now (b .exit)) (now (u .exit)) (now (v .exit)) ≡ stepped binary64 (sizes z) upper k (work (now (b .entry)) (now (u .entry)) (now (v .entry))) ⌝ }
+    requires { ⌜ Inside (sizes z) (k + 3) × Lending (sizes z) (work (now b) (now u) (now v)) ⌝ }
+    ensures { λ _. ⌜ work (now (b .exit)) (now (u .exit)) (now (v .exit)) ≡
+        stepped binary64 (sizes z) upper k (work (now (b .entry)) (now (u .entry)) (now (v .entry))) ⌝ }
 {
     push(b, u, v, z, upper, k, k, 3);
     push(b, u, v, z, !upper, k + 1, k, 3);
@@ -92,8 +98,9 @@ fn step(b: &mut [f64], u: &mut [f64], v: &mut [f64], z: Shape, upper: bool, k: u
 
 // The steps down the interior of the live corner.
 fn chase(b: &mut [f64], u: &mut [f64], v: &mut [f64], z: Shape, upper: bool, interior: usize)
-    requires { ⌜ (interior + 2 ≤ z .rows) × (interior + 2 ≤ z .cols) × Roomy (sizes z) (now b) × Lent (z .rows) (z .urows) (now u) × Lent (z .cols) (z .vrows) (now v) ⌝ }
-    ensures { λ _. ⌜ work (now (b .exit)) (now (u .exit)) (now (v .exit)) ≡ steps binary64 (sizes z) upper interior (work (now (b .entry)) (now (u .entry)) (now (v .entry))) ⌝ }
+    requires { ⌜ Inside (sizes z) (interior + 2) × Lending (sizes z) (work (now b) (now u) (now v)) ⌝ }
+    ensures { λ _. ⌜ work (now (b .exit)) (now (u .exit)) (now (v .exit)) ≡
+        steps binary64 (sizes z) upper interior (work (now (b .entry)) (now (u .entry)) (now (v .entry))) ⌝ }
 {
     for k in 0..interior {
         step(b, u, v, z, upper, k);
@@ -102,7 +109,7 @@ fn chase(b: &mut [f64], u: &mut [f64], v: &mut [f64], z: Shape, upper: bool, int
 
 // The rotation that a sweep starts with.
 fn first_rotation(b: &[f64], stride: usize, upper: bool, k: usize, tl: usize, bl: usize) -> Rotation
-    requires { ⌜ (2 ≤ stride) × (stride ≤ 64) × (k ≤ 46) × (k + 2 ≤ stride) × ((k + 2) * stride ≤ length (now b)) × (tl ≡ k * stride + k) × (bl ≡ (k + 1) * stride + k) ⌝ }
+    requires { ⌜ Block stride k k 2 2 (now b) × (stride ≤ 64) × (tl ≡ k * stride + k) × (bl ≡ (k + 1) * stride + k) ⌝ }
     ensures { λ r. ⌜ rotation r ≡ firstRotation binary64 stride upper k (now (b .entry)) ⌝ }
 {
     let tr = tl + 1;
@@ -124,8 +131,10 @@ fn givens_iteration(
     tl: usize,
     bl: usize,
 )
-    requires { ⌜ (interior + 2 ≤ z .rows) × (interior + 2 ≤ z .cols) × Roomy (sizes z) (now b) × Lent (z .rows) (z .urows) (now u) × Lent (z .cols) (z .vrows) (now v) × (tl ≡ interior * z .stride + interior) × (bl ≡ (interior + 1) * z .stride + interior) ⌝ }
-    ensures { λ _. ⌜ work (now (b .exit)) (now (u .exit)) (now (v .exit)) ≡ swept binary64 (sizes z) upper interior (work (now (b .entry)) (now (u .entry)) (now (v .entry))) ⌝ }
+    requires { ⌜ Inside (sizes z) (interior + 2) × Lending (sizes z) (work (now b) (now u) (now v))
+        × (tl ≡ interior * z .stride + interior) × (bl ≡ (interior + 1) * z .stride + interior) ⌝ }
+    ensures { λ _. ⌜ work (now (b .exit)) (now (u .exit)) (now (v .exit)) ≡
+        swept binary64 (sizes z) upper interior (work (now (b .entry)) (now (u .entry)) (now (v .entry))) ⌝ }
 {
     let g = first_rotation(b, z.stride, upper, interior, tl, bl);
     turn(b, u, v, z, g, !upper, 0, 0, 2);
@@ -144,7 +153,8 @@ fn is_negligible(
     bl: usize,
     s: Settings,
 ) -> bool
-    requires { ⌜ (k + 2 ≤ stride) × (k ≤ 46) × (stride ≤ 64) × ((k + 2) * stride ≤ length (now b)) × (e1 ≡ couplingPlace upper stride k) × (tl ≡ k * stride + k) × (bl ≡ (k + 1) * stride + k) ⌝ }
+    requires { ⌜ Block stride k k 2 2 (now b) × (stride ≤ 64)
+        × (e1 ≡ couplingPlace upper stride k) × (tl ≡ k * stride + k) × (bl ≡ (k + 1) * stride + k) ⌝ }
     ensures { λ r. ⌜ r ≡ negligible binary64 (s .tolerance) (s .absolute) stride upper k (now (b .entry)) ⌝ }
 {
     let br = bl + 1;
@@ -163,8 +173,10 @@ pub(crate) fn decomp_givens(
     n: usize,
     s: Settings,
 ) -> Walk
-    requires { ⌜ Roomy (sizes z) (now b) × Lent (z .rows) (z .urows) (now u) × Lent (z .cols) (z .vrows) (now v) × Standing (sizes z) upper n first ⌝ }
-    ensures { λ r. ⌜ stands (counts r) (work (now (b .exit)) (now (u .exit)) (now (v .exit))) ≡ run (rulesOf binary64 (sizes z) upper (s .tolerance) (s .absolute)) (s .limit) (s .credit) n (stands (counts first) (work (now (b .entry)) (now (u .entry)) (now (v .entry)))) ⌝ }
+    requires { ⌜ Lending (sizes z) (work (now b) (now u) (now v)) × Standing (sizes z) upper n first ⌝ }
+    ensures { λ r. ⌜ stands (counts r) (work (now (b .exit)) (now (u .exit)) (now (v .exit))) ≡
+        run (rulesOf binary64 (sizes z) upper (s .tolerance) (s .absolute)) (s .limit) (s .credit) n
+        (stands (counts first) (work (now (b .entry)) (now (u .entry)) (now (v .entry)))) ⌝ }
 {
     let mut walk = first;
     let mut made = 0;

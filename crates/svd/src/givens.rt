@@ -5,7 +5,7 @@ ghost use Prim.Native.Nat.{_+_, _*_, _≤_, _<_};
 ghost use lib.ListN.{length};
 ghost use lib.Ieee.{binary64};
 ghost use Rattle.method.specs.Rotation.{rotationOf, pairTurned, rowsTurned, columnsTurned};
-ghost use Rattle.svd.specs.Values.{rotation};
+ghost use Rattle.svd.specs.Values.{rotation, Block};
 
 // Where a rotation takes its two numbers, with its cosine and sine.
 pub struct Rotation {
@@ -66,7 +66,7 @@ pub(crate) fn apply_g_left(
     j: usize,
     range: usize,
 )
-    requires { ⌜ (j + range ≤ stride) × (i + 2 ≤ 48) × ((i + 2) * stride ≤ length (now a)) ⌝ }
+    requires { ⌜ Block stride i j 2 range (now a) ⌝ }
     ensures { λ _. ⌜ now (a .exit) ≡ rowsTurned binary64 (rotation g) stride i j range (now (a .entry)) ⌝ }
 {
     let upper = i * stride;
@@ -85,7 +85,7 @@ pub(crate) fn apply_gt_right(
     j: usize,
     range: usize,
 )
-    requires { ⌜ (i + 2 ≤ stride) × (j + range ≤ 48) × ((j + range) * stride ≤ length (now a)) ⌝ }
+    requires { ⌜ Block stride j i range 2 (now a) ⌝ }
     ensures { λ _. ⌜ now (a .exit) ≡ columnsTurned binary64 (rotation g) stride i j range (now (a .entry)) ⌝ }
 {
     for k in 0..range {

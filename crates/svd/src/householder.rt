@@ -4,8 +4,43 @@ ghost use mathlib.Core.Path.{_≡_};
 ghost use Prim.Native.Nat.{_+_, _*_, _≤_, _<_};
 ghost use lib.ListN.{length};
 ghost use lib.Ieee.{binary64};
-ghost use Rattle.method.specs.Reflection.{blank, largestOf, scaled, cleared, squaresOf, tailTimes, reflectionOf, rowTimes, rowLess, rowReflected, reflectedRight, rowCopied, rowAdded, columnSums, allTimes, rowLessAll, rowLessTimes, rowsLess, reflectedLeft};
-ghost use Rattle.svd.specs.Values.{reflection};
+ghost use Rattle.method.specs.Reflection.{blank, lineCopied, lineCleared, timesFrom};
+ghost use Rattle.method.specs.Reflection.{largestOf, scaled, squaresOf, reflectionOf};
+ghost use Rattle.method.specs.Reflection.{rowTimes, rowLess, rowReflected, reflectedRight};
+ghost use Rattle.method.specs.Reflection.{rowAdded, columnSums, rowLessAll, rowLessTimes, rowsLess, reflectedLeft};
+ghost use Rattle.svd.specs.Values.{reflection, Block};
+
+// The line of n entries from `at` on, `step` apart, into a blank vector.
+pub(crate) fn copy_line(a: &[f64], w: &mut [f64], at: usize, step: usize, n: usize)
+    requires { ⌜ (at + n * step < length (now a) + step) × (n ≤ 48) × (now w ≡ blank) ⌝ }
+    ensures { λ _. ⌜ now (w .exit) ≡ lineCopied at step n (now (a .entry)) ⌝ }
+{
+    for k in 0..n {
+        let i = at + k * step;
+        w[k] = a[i];
+    }
+}
+
+// That line, set to 0.
+pub(crate) fn clear_line(a: &mut [f64], at: usize, step: usize, n: usize)
+    requires { ⌜ at + n * step < length (now a) + step ⌝ }
+    ensures { λ _. ⌜ now (a .exit) ≡ lineCleared at step n (now (a .entry)) ⌝ }
+{
+    for k in 0..n {
+        let i = at + k * step;
+        a[i] = 0.0;
+    }
+}
+
+// Entries lo to n - 1, times x.
+fn scale_from(w: &mut [f64], lo: usize, n: usize, x: f64)
+    requires { ⌜ (lo ≤ n) × (n ≤ length (now w)) ⌝ }
+    ensures { λ _. ⌜ now (w .exit) ≡ timesFrom binary64 x lo n (now (w .entry)) ⌝ }
+{
+    for k in lo..n {
+        w[k] *= x;
+    }
+}
 
 // The largest magnitude among the n entries from `at` on.
 fn largest(v: &[f64], at: usize, n: usize) -> f64
@@ -34,17 +69,6 @@ fn scale_into(v: &[f64], w: &mut [f64], at: usize, n: usize, x: f64)
     }
 }
 
-// The n entries from `at` on, set to 0.
-fn clear(v: &mut [f64], at: usize, n: usize)
-    requires { ⌜ at + n ≤ length (now v) ⌝ }
-    ensures { λ _. ⌜ now (v .exit) ≡ cleared at n (now (v .entry)) ⌝ }
-{
-    for k in 0..n {
-        let i = at + k;
-        v[i] = 0.0;
-    }
-}
-
 // The sum of the squares of the first n entries.
 fn squares(w: &[f64], n: usize) -> f64
     requires { ⌜ n ≤ length (now w) ⌝ }
@@ -57,21 +81,12 @@ fn squares(w: &[f64], n: usize) -> f64
     sum
 }
 
-// Entries 1 to n - 1, times x.
-fn scale_tail(w: &mut [f64], n: usize, x: f64)
-    requires { ⌜ (1 ≤ n) × (n ≤ length (now w)) ⌝ }
-    ensures { λ _. ⌜ now (w .exit) ≡ tailTimes binary64 x n (now (w .entry)) ⌝ }
-{
-    for k in 1..n {
-        w[k] *= x;
-    }
-}
-
 // Makes the reflection of the n entries of v from `at` on: what it leaves in v, its vector in p,
 // which comes blank, and its tau.
 pub(crate) fn params(v: &mut [f64], p: &mut [f64], at: usize, n: usize, floor: f64) -> f64
     requires { ⌜ (1 ≤ n) × (at + n ≤ length (now v)) × (n ≤ 48) × (now p ≡ blank) ⌝ }
-    ensures { λ r. ⌜ reflection (now (v .exit)) (now (p .exit)) r ≡ reflectionOf binary64 floor at n (now (v .entry)) ⌝ }
+    ensures { λ r. ⌜ reflection (now (v .exit)) (now (p .exit)) r ≡
+        reflectionOf binary64 floor at n (now (v .entry)) ⌝ }
 {
     let max = largest(v, at, n);
     if max < floor {
@@ -80,13 +95,13 @@ pub(crate) fn params(v: &mut [f64], p: &mut [f64], at: usize, n: usize, floor: f
     }
     let over = 1.0 / max;
     scale_into(v, p, at, n, over);
-    clear(v, at, n);
+    clear_line(v, at, 1, n);
     let sum = squares(p, n);
     let head = p[0];
     let g = float::sign(head) * float::square_root(sum);
     let scale = head + g;
     let by = 1.0 / scale;
-    scale_tail(p, n, by);
+    scale_from(p, 1, n, by);
     v[at] = (-g) * max;
     p[0] = 1.0;
     scale / g
@@ -137,23 +152,13 @@ pub(crate) fn rapply_householder(
     rows: usize,
     cols: usize,
 )
-    requires { ⌜ (1 ≤ cols) × (cols ≤ length (now p)) × (j + cols ≤ stride) × (i + rows ≤ 48) × ((i + rows) * stride ≤ length (now a)) ⌝ }
-    ensures { λ _. ⌜ now (a .exit) ≡ reflectedRight binary64 (now (p .entry)) tau stride i j rows cols (now (a .entry)) ⌝ }
+    requires { ⌜ (1 ≤ cols) × (cols ≤ length (now p)) × Block stride i j rows cols (now a) ⌝ }
+    ensures { λ _. ⌜ now (a .exit) ≡
+        reflectedRight binary64 (now (p .entry)) tau stride i j rows cols (now (a .entry)) ⌝ }
 {
     for k in 0..rows {
         let off = (i + k) * stride + j;
         reflect_row(a, p, tau, off, cols);
-    }
-}
-
-// The n entries from `off` on, into a blank vector.
-fn copy_row(a: &[f64], w: &mut [f64], off: usize, n: usize)
-    requires { ⌜ (off + n ≤ length (now a)) × (n ≤ 48) × (now w ≡ blank) ⌝ }
-    ensures { λ _. ⌜ now (w .exit) ≡ rowCopied off n (now (a .entry)) ⌝ }
-{
-    for l in 0..n {
-        let i = off + l;
-        w[l] = a[i];
     }
 }
 
@@ -179,23 +184,14 @@ fn sum_columns(
     rows: usize,
     cols: usize,
 )
-    requires { ⌜ (1 ≤ rows) × (rows ≤ length (now p)) × (cols ≤ 48) × (j + cols ≤ stride) × (i + rows ≤ 48) × ((i + rows) * stride ≤ length (now a)) × (now w ≡ blank) ⌝ }
+    requires { ⌜ (1 ≤ rows) × (rows ≤ length (now p)) × (cols ≤ 48) × Block stride i j rows cols (now a)
+        × (now w ≡ blank) ⌝ }
     ensures { λ _. ⌜ now (w .exit) ≡ columnSums binary64 (now (p .entry)) stride i j rows cols (now (a .entry)) ⌝ }
 {
-    copy_row(a, w, i * stride + j, cols);
+    copy_line(a, w, i * stride + j, 1, cols);
     for k in 1..rows {
         let off = (i + k) * stride + j;
         add_row(a, w, p[k], off, cols);
-    }
-}
-
-// The first n entries, times x.
-fn scale_all(w: &mut [f64], n: usize, x: f64)
-    requires { ⌜ n ≤ length (now w) ⌝ }
-    ensures { λ _. ⌜ now (w .exit) ≡ allTimes binary64 x n (now (w .entry)) ⌝ }
-{
-    for l in 0..n {
-        w[l] *= x;
     }
 }
 
@@ -232,8 +228,9 @@ fn rows_less(
     rows: usize,
     cols: usize,
 )
-    requires { ⌜ (1 ≤ rows) × (rows ≤ length (now p)) × (cols ≤ length (now w)) × (j + cols ≤ stride) × (i + rows ≤ 48) × ((i + rows) * stride ≤ length (now a)) ⌝ }
-    ensures { λ _. ⌜ now (a .exit) ≡ rowsLess binary64 (now (p .entry)) (now (w .entry)) stride i j rows cols (now (a .entry)) ⌝ }
+    requires { ⌜ (1 ≤ rows) × (rows ≤ length (now p)) × (cols ≤ length (now w)) × Block stride i j rows cols (now a) ⌝ }
+    ensures { λ _. ⌜ now (a .exit) ≡
+        rowsLess binary64 (now (p .entry)) (now (w .entry)) stride i j rows cols (now (a .entry)) ⌝ }
 {
     row_less_all(a, w, i * stride + j, cols);
     for k in 1..rows {
@@ -253,11 +250,12 @@ pub(crate) fn lapply_householder(
     rows: usize,
     cols: usize,
 )
-    requires { ⌜ (1 ≤ rows) × (rows ≤ length (now p)) × (cols ≤ 48) × (j + cols ≤ stride) × (i + rows ≤ 48) × ((i + rows) * stride ≤ length (now a)) ⌝ }
-    ensures { λ _. ⌜ now (a .exit) ≡ reflectedLeft binary64 (now (p .entry)) tau stride i j rows cols (now (a .entry)) ⌝ }
+    requires { ⌜ (1 ≤ rows) × (rows ≤ length (now p)) × (cols ≤ 48) × Block stride i j rows cols (now a) ⌝ }
+    ensures { λ _. ⌜ now (a .exit) ≡
+        reflectedLeft binary64 (now (p .entry)) tau stride i j rows cols (now (a .entry)) ⌝ }
 {
     let mut w = [0.0f64; 48];
     sum_columns(a, p, &mut w, stride, i, j, rows, cols);
-    scale_all(&mut w, cols, tau);
+    scale_from(&mut w, 0, cols, tau);
     rows_less(a, p, &w, stride, i, j, rows, cols);
 }

@@ -15,7 +15,7 @@ ghost use Rattle.method.specs.Work.{work};
 ghost use Rattle.method.specs.Walk.{stands};
 ghost use Rattle.method.specs.Outcome.{card, outcomeOf, walkedFrom, plainOutcome, fullOutcome};
 ghost use Rattle.checks.specs.Values.{settingsOf};
-ghost use Rattle.svd.specs.Values.{sizes, counts, reportOf, Roomy, Lent};
+ghost use Rattle.svd.specs.Values.{sizes, counts, reportOf, Lending, Inside};
 
 fn smaller_size(rows: usize, cols: usize) -> usize
     requires { ⌜ (1 ≤ rows) × (1 ≤ cols) ⌝ }
@@ -26,8 +26,11 @@ fn smaller_size(rows: usize, cols: usize) -> usize
 
 // The bidiagonal form, and then the walk.
 fn decompose(b: &mut [f64], u: &mut [f64], v: &mut [f64], z: Shape, s: Settings) -> Walk
-    requires { ⌜ (1 ≤ z .rows) × (1 ≤ z .cols) × (s .limit ≤ 100000) × (s .credit ≤ 1000) × Roomy (sizes z) (now b) × Lent (z .rows) (z .urows) (now u) × Lent (z .cols) (z .vrows) (now v) ⌝ }
-    ensures { λ r. ⌜ stands (counts r) (work (now (b .exit)) (now (u .exit)) (now (v .exit))) ≡ walkedFrom binary64 (sizes z) (z .rows) (z .cols) (settingsOf s) (work (now (b .entry)) (now (u .entry)) (now (v .entry))) ⌝ }
+    requires { ⌜ Inside (sizes z) 1 × (s .limit ≤ 100000) × (s .credit ≤ 1000)
+        × Lending (sizes z) (work (now b) (now u) (now v)) ⌝ }
+    ensures { λ r. ⌜ stands (counts r) (work (now (b .exit)) (now (u .exit)) (now (v .exit))) ≡
+        walkedFrom binary64 (sizes z) (z .rows) (z .cols) (settingsOf s)
+        (work (now (b .entry)) (now (u .entry)) (now (v .entry))) ⌝ }
 {
     let upper = z.cols <= z.rows;
     let card = smaller_size(z.rows, z.cols);
@@ -46,7 +49,9 @@ pub fn full_svd_decomposition(
     cols: usize,
     settings: Settings,
 ) -> Report
-    ensures { λ r. ⌜ outcomeOf (reportOf r) (work (now (b .exit)) (now (u .exit)) (now (v .exit))) ≡ fullOutcome binary64 rows cols (settingsOf settings) (work (now (b .entry)) (now (u .entry)) (now (v .entry))) ⌝ }
+    ensures { λ r. ⌜ outcomeOf (reportOf r) (work (now (b .exit)) (now (u .exit)) (now (v .exit))) ≡
+        fullOutcome binary64 rows cols (settingsOf settings)
+        (work (now (b .entry)) (now (u .entry)) (now (v .entry))) ⌝ }
 {
     let refusal = first_refusal(b, u, v, true, rows, cols, settings);
     if refusal.number != 0 {
@@ -64,7 +69,8 @@ pub fn full_svd_decomposition(
 }
 // The split of the table alone.
 pub fn svd_decomposition(b: &mut [f64], rows: usize, cols: usize, settings: Settings) -> Report
-    ensures { λ r. ⌜ outcomeOf (reportOf r) (work (now (b .exit)) [] []) ≡ plainOutcome binary64 rows cols (settingsOf settings) (now (b .entry)) ⌝ }
+    ensures { λ r. ⌜ outcomeOf (reportOf r) (work (now (b .exit)) [] []) ≡
+        plainOutcome binary64 rows cols (settingsOf settings) (now (b .entry)) ⌝ }
 {
     let mut u = [0.0f64; 0];
     let mut v = [0.0f64; 0];

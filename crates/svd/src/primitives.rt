@@ -81,7 +81,8 @@ impl Walk {
     // The record after a pass that drops.
     pub(crate) fn drop(self, stride: usize, credit: usize) -> Walk
         requires { ⌜ (1 < self .range) × (stride ≤ 64) × Room 1 (counts self) ⌝ }
-        ensures { λ r. ⌜ (counts r ≡ afterDrop credit (counts self)) × (corner r ≡ cornerDropped stride credit (counted (corner self))) ⌝ }
+        ensures { λ r. ⌜ (counts r ≡ afterDrop credit (counts self))
+            × (corner r ≡ cornerDropped stride credit (counted (corner self))) ⌝ }
     {
         let shift = stride + 1;
         Walk {

@@ -1,4 +1,4 @@
--- By whether the table is square. Assumes nothing.
+-- `bidiagonal` meets its contract: by whether the table is square. Assumes nothing.
 use borrow.Author.Needs.{needs}
 use mathlib.Core.Path.{_≡_, refl, ap, _∙_}
 use Rattle.method.specs.Bidiagonal.{bidiagonal-square, bidiagonal-other}

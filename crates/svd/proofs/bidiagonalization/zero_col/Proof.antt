@@ -1,4 +1,4 @@
--- By tau: the columns right of it and U take the reflection or not. Assumes nothing.
+-- `zero_col` meets its contract: where tau is not 0 the columns right of it and U take the reflection. Assumes nothing.
 use borrow.Author.Needs.{needs}
 use Prim.Native.Nat.{_+_, _-_, _*_, _<_, _≤_, zero-le}
 use mathlib.Core.Path.{_≡_, refl, ap, _∙_}
@@ -20,11 +20,11 @@ returns c =
 
 lapply-householder-requires : tie.Need-lapply-householder-requires
 lapply-householder-requires c κs =
-    let st = c .before .before .before .before .before .before .before .before .before .before .before .before .before in
-    (omega arith, omega arith, omega arith, omega arith, omega arith, omega (arith, rows-left (st .args .i) (st .args .z .rows) (st .args .z .stride) (omega arith)))
+    let at-start = c .before .before .before .before .before .before .before .before .before .before .before .before .before in
+    (omega arith, omega arith, omega arith, record { wide = omega arith; few = omega arith; whole = omega (arith, rows-left (at-start .args .i) (at-start .args .z .rows) (at-start .args .z .stride) (omega arith)) })
 
 rapply-householder-requires : tie.Need-rapply-householder-requires
-rapply-householder-requires c κs = (omega arith, omega arith, omega arith, omega arith, omega arith)
+rapply-householder-requires c κs = (omega arith, omega arith, record { wide = omega arith; few = omega arith; whole = omega arith })
 
 returns-2 : tie.Need-returns-2
 returns-2 c =

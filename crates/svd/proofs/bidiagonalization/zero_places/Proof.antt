@@ -1,38 +1,38 @@
--- After k turns the lists are `placesZeroed` of k places. Assumes nothing.
+-- `zero_places` meets its contract: after k turns the lists are `placesZeroed` of k places. Assumes nothing.
 use borrow.Author.Needs.{needs}
 use Prim.Native.Nat.{_+_, _-_, _*_, _<_, _≤_, zero-le}
 use mathlib.Core.Path.{_≡_, refl, ap, _∙_}
 use native.Mathlib.Omega.{arith}
 use native.Mathlib.Nat.{le-antisymm}
-use lib.ListN.{length, length-set}
 use lib.Ieee.{binary64}
-use Rattle.svd.specs.Values.{sizes, Roomy, Lent}
+use Rattle.svd.specs.Values.{sizes, Lending}
 use Rattle.method.specs.Work.{work}
+use Rattle.method.specs.Lengths.{SameLengths}
 use Rattle.method.specs.Turns.{turns-none, turns-more}
 use Rattle.method.specs.Bidiagonal.{placesZeroed}
 use Rattle.svd.proofs.bidiagonalization.zero_places.Statement.{statement}
 use Rattle.svd.proofs.bidiagonalization.zero_places.Tie as tie
 
 abbrev Inv-loop : tie.InvT-loop
-Inv-loop b₀ u₀ v₀ z upper pivot floor k₀ b u v k = (k ≤ pivot) × Roomy (sizes z) b × Lent (z .rows) (z .urows) u × Lent (z .cols) (z .vrows) v × (length b ≡ length b₀) × (length u ≡ length u₀) × (length v ≡ length v₀) × (work b u v ≡ placesZeroed binary64 floor (sizes z) upper k (work b₀ u₀ v₀))
+Inv-loop b₀ u₀ v₀ z upper pivot floor k₀ b u v k = (k ≤ pivot) × Lending (sizes z) (work b u v) × SameLengths (work b₀ u₀ v₀) (work b u v) × (work b u v ≡ placesZeroed binary64 floor (sizes z) upper k (work b₀ u₀ v₀))
 
 abbrev μ-loop : tie.MeasureT-loop
 μ-loop b₀ u₀ v₀ z upper pivot floor k₀ b u v k = pivot - k
 
 loop-holds : tie.Need-loop-holds Inv-loop μ-loop
 unfolding placesZeroed
-loop-holds c = (omega arith, c .before .before .before .pre .2, c .before .before .before .pre .3, c .before .before .before .pre .4, refl, refl, refl, turns-none 0 _ _)
+loop-holds c = (omega arith, c .before .before .before .pre .1, record { matrix = refl; u = refl; v = refl }, turns-none 0 _ _)
 
 loop-again : tie.Need-loop-again Inv-loop μ-loop
 unfolding placesZeroed
 loop-again c =
     let at-zero-then = c .before .before .before .before .before .before in
     let at-zero-first = at-zero-then .before .before .before .before .before .before .before .before .before .before in
-    let lp = at-zero-first .before .before .before .before .before in
-    (omega arith, search needs, search needs, search needs, omega arith, omega arith, omega arith, rw (at-zero-then .zero-then .ensures, at-zero-first .zero-first .ensures) (turns-more 0 _ _ _ _ zero-le (lp .loop .inv .7)))
+    let at-loop = at-zero-first .before .before .before .before .before in
+    (omega arith, search needs, search needs, rw (at-zero-then .zero-then .ensures, at-zero-first .zero-first .ensures) (turns-more 0 _ _ _ _ zero-le (at-loop .loop .inv .3)))
 
 returns : tie.Need-returns Inv-loop μ-loop
-returns c = rw (le-antisymm (c .before .loop .inv .0) (c .loop-test .left)) at (c .before .loop .inv .7)
+returns c = rw (le-antisymm (c .before .loop .inv .0) (c .loop-test .left)) at (c .before .loop .inv .3)
 
 pub zero-places-spec : {M : Type 1} → statement M
 zero-places-spec = tie.close (tie.spec Inv-loop μ-loop loop-holds (λ c κs. search needs) (λ c κs. search needs) (λ c. search needs) (λ c. search needs) loop-again (λ c. search needs) (λ c. search needs) (λ c. search needs) returns)

@@ -1,4 +1,4 @@
--- By tau: the row is left as the reflection leaves it, or the rows below and V take it. Assumes nothing.
+-- `zero_row` meets its contract: where tau is not 0 the rows below and V take the reflection. Assumes nothing.
 use borrow.Author.Needs.{needs}
 use Prim.Native.Nat.{_+_, _-_, _*_, _<_, _≤_, zero-le}
 use mathlib.Core.Path.{_≡_, refl, ap, _∙_}
@@ -18,8 +18,8 @@ add-at c = omega (arith, row-below (c .before .before .before .args .z .stride) 
 
 params-requires : tie.Need-params-requires
 params-requires c κs =
-    let st = c .before .before .before .before .before in
-    rw plusZero-64 (omega arith, omega (arith, row-below (st .args .z .stride) (st .pre .0)), omega arith, refl)
+    let at-start = c .before .before .before .before .before in
+    rw plusZero-64 (omega arith, omega (arith, row-below (at-start .args .z .stride) (at-start .pre .0)), omega arith, refl)
 
 returns : tie.Need-returns
 returns c =
@@ -28,8 +28,8 @@ returns c =
 
 rapply-householder-requires : tie.Need-rapply-householder-requires
 rapply-householder-requires c κs =
-    let st = c .before .before .before .before .before .before .before .before .before .before .before .before .before in
-    (omega arith, omega arith, omega arith, omega arith, omega (arith, rows-left (st .args .i + 1) (st .args .z .rows) (st .args .z .stride) (omega arith)))
+    let at-start = c .before .before .before .before .before .before .before .before .before .before .before .before .before in
+    (omega arith, omega arith, record { wide = omega arith; few = omega arith; whole = omega (arith, rows-left (at-start .args .i + 1) (at-start .args .z .rows) (at-start .args .z .stride) (omega arith)) })
 
 returns-2 : tie.Need-returns-2
 returns-2 c =

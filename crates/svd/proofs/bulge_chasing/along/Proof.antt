@@ -1,4 +1,4 @@
--- By whether the line is a row. Assumes nothing.
+-- `along` meets its contract: by whether the line is a row. Assumes nothing.
 use borrow.Author.Needs.{needs}
 use mathlib.Core.Path.{_≡_, refl, ap, _∙_}
 use Rattle.svd.proofs.bulge_chasing.along.Statement.{statement}

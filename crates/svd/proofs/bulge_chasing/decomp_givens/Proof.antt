@@ -1,4 +1,4 @@
--- After `made` turns as many passes have been made, as the definition makes them. Assumes nothing.
+-- `decomp_givens` meets its contract: after `made` turns as many passes have been made, as the definition makes them. Assumes nothing.
 use borrow.Author.Needs.{needs}
 use Prim.Native.Nat.{_+_, _-_, _*_, _<_, _≤_, zero-le}
 use native.Mathlib.Omega.{arith}
@@ -18,48 +18,48 @@ abbrev μ-loop : tie.MeasureT-loop
 μ-loop b₀ u₀ v₀ z upper n s walk₀ made₀ b u v walk made = n - made
 
 loop-holds : tie.Need-loop-holds Inv-loop μ-loop
-loop-holds c = inv-start _ _ _ _ _ _ (c .before .before .before .pre .3)
+loop-holds c = inv-start _ _ _ _ _ _ (c .before .before .before .pre .1)
 
 is-negligible-requires : tie.Need-is-negligible-requires Inv-loop μ-loop
 is-negligible-requires c κs =
     let at-if1 = c .before .before .before .before in
     let at-loop-test = at-if1 .before .before in
-    let lp = at-loop-test .before in
-    let st = lp .before .before .before .before in
-    test-asks (st .pre .3) (lp .loop .inv) (at-loop-test .loop-test .taken) (ltb-true _ _ (at-if1 .if1 .taken)) (ltb-true _ _ (c .before .if2 .taken)) (st .pre .0)
+    let at-loop = at-loop-test .before in
+    let at-start = at-loop .before .before .before .before in
+    test-asks (at-start .pre .1) (at-loop .loop .inv) (at-loop-test .loop-test .taken) (ltb-true _ _ (at-if1 .if1 .taken)) (ltb-true _ _ (c .before .if2 .taken)) (at-start .pre .0)
 
 drop-requires : tie.Need-drop-requires Inv-loop μ-loop
 drop-requires c κs =
     let at-if1 = c .before .before .before .before .before .before in
     let at-loop-test = at-if1 .before .before in
-    let lp = at-loop-test .before in
-    let st = lp .before .before .before .before in
-    (ltb-true _ _ (at-if1 .if1 .taken), search needs, inv-room (st .pre .3) (lp .loop .inv) (at-loop-test .loop-test .taken))
+    let at-loop = at-loop-test .before in
+    let at-start = at-loop .before .before .before .before in
+    (ltb-true _ _ (at-if1 .if1 .taken), search needs, inv-room (at-start .pre .1) (at-loop .loop .inv) (at-loop-test .loop-test .taken))
 
 loop-again : tie.Need-loop-again Inv-loop μ-loop
 loop-again c =
     let at-if2 = c .before .before .before .before in
     let at-if1 = at-if2 .before .before .before in
     let at-loop-test = at-if1 .before .before in
-    let lp = at-loop-test .before in
-    let st = lp .before .before .before .before in
-    inv-drop (st .pre .3) (lp .loop .inv) (at-loop-test .loop-test .taken) (ltb-true _ _ (at-if1 .if1 .taken)) (ltb-true _ _ (at-if2 .if2 .taken)) (c .drop .ensures .0) (c .drop .ensures .1) (sym (c .before .before .is-negligible .ensures) ∙ c .before .if3 .taken)
+    let at-loop = at-loop-test .before in
+    let at-start = at-loop .before .before .before .before in
+    inv-drop (at-start .pre .1) (at-loop .loop .inv) (at-loop-test .loop-test .taken) (ltb-true _ _ (at-if1 .if1 .taken)) (ltb-true _ _ (at-if2 .if2 .taken)) (c .drop .ensures .0) (c .drop .ensures .1) (sym (c .before .before .is-negligible .ensures) ∙ c .before .if3 .taken)
 
 givens-iteration-requires : tie.Need-givens-iteration-requires Inv-loop μ-loop
 givens-iteration-requires c κs =
     let at-if2 = c .before .before .before .before .before .before in
     let at-if1 = at-if2 .before .before .before in
     let at-loop-test = at-if1 .before .before in
-    let lp = at-loop-test .before in
-    let st = lp .before .before .before .before in
-    sweep-asks (st .pre .3) (lp .loop .inv) (at-loop-test .loop-test .taken) (ltb-true _ _ (at-if1 .if1 .taken)) (ltb-true _ _ (at-if2 .if2 .taken)) (st .pre .0) (st .pre .1) (st .pre .2)
+    let at-loop = at-loop-test .before in
+    let at-start = at-loop .before .before .before .before in
+    sweep-asks (at-start .pre .1) (at-loop .loop .inv) (at-loop-test .loop-test .taken) (ltb-true _ _ (at-if1 .if1 .taken)) (ltb-true _ _ (at-if2 .if2 .taken)) (at-start .pre .0)
 
 sweep-requires : tie.Need-sweep-requires Inv-loop μ-loop
 sweep-requires c κs =
     let at-loop-test = c .before .before .before .before .before .before .before .before .before .before .before .before .before .before .before .before .before .before in
-    let lp = at-loop-test .before in
-    let st = lp .before .before .before .before in
-    inv-room (st .pre .3) (lp .loop .inv) (at-loop-test .loop-test .taken)
+    let at-loop = at-loop-test .before in
+    let at-start = at-loop .before .before .before .before in
+    inv-room (at-start .pre .1) (at-loop .loop .inv) (at-loop-test .loop-test .taken)
 
 loop-again-2 : tie.Need-loop-again-2 Inv-loop μ-loop
 loop-again-2 c =
@@ -69,9 +69,9 @@ loop-again-2 c =
     let at-if2 = at-is-negligible .before .before in
     let at-if1 = at-if2 .before .before .before in
     let at-loop-test = at-if1 .before .before in
-    let lp = at-loop-test .before in
-    let st = lp .before .before .before .before in
-    inv-sweep (st .pre .3) (lp .loop .inv) (at-loop-test .loop-test .taken) (ltb-true _ _ (at-if1 .if1 .taken)) (ltb-true _ _ (at-if2 .if2 .taken)) (c .sweep .ensures .0) (c .sweep .ensures .1) (at-givens-iteration .givens-iteration .ensures) (sym (at-is-negligible .is-negligible .ensures) ∙ at-if3 .if3 .left)
+    let at-loop = at-loop-test .before in
+    let at-start = at-loop .before .before .before .before in
+    inv-sweep (at-start .pre .1) (at-loop .loop .inv) (at-loop-test .loop-test .taken) (ltb-true _ _ (at-if1 .if1 .taken)) (ltb-true _ _ (at-if2 .if2 .taken)) (c .sweep .ensures .0) (c .sweep .ensures .1) (at-givens-iteration .givens-iteration .ensures) (sym (at-is-negligible .is-negligible .ensures) ∙ at-if3 .if3 .left)
 
 returns : tie.Need-returns Inv-loop μ-loop
 returns c = inv-spent (c .before .before .before .before .before .before .loop .inv) (ltb-false _ _ (c .if2 .left))

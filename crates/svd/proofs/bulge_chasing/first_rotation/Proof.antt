@@ -1,4 +1,4 @@
--- The places are those of the corner. Assumes nothing.
+-- `first_rotation` meets its contract: the places are those of the corner. Assumes nothing.
 use borrow.Author.Needs.{needs}
 use Prim.Native.Nat.{_+_, _-_, _*_, _<_, _≤_, zero-le}
 use native.Mathlib.Omega.{arith}
@@ -9,8 +9,8 @@ use Rattle.svd.proofs.bulge_chasing.first_rotation.Tie as tie
 
 returns : tie.Need-returns
 returns c =
-    let st = c .before .before .before .before .before .before .before .before .before in
-    firstRotation-is binary64 (st .args .stride) (st .args .upper) (st .args .k) _ (st .args .tl) (st .args .bl) (st .args .bl + 1) (st .args .tl + 1) _ _ _ (st .pre .5) (omega (arith, st .pre .5)) (st .pre .6) (omega (arith, st .pre .6)) (c .before .before .before .singular .ensures) (c .before .along .ensures) (c .implicit-givens-rotation .ensures)
+    let at-start = c .before .before .before .before .before .before .before .before .before in
+    firstRotation-is binary64 (at-start .args .stride) (at-start .args .upper) (at-start .args .k) _ (at-start .args .tl) (at-start .args .bl) (at-start .args .bl + 1) (at-start .args .tl + 1) _ _ _ (at-start .pre .2) (omega (arith, at-start .pre .2)) (at-start .pre .3) (omega (arith, at-start .pre .3)) (c .before .before .before .singular .ensures) (c .before .along .ensures) (c .implicit-givens-rotation .ensures)
 
 pub first-rotation-spec : {M : Type 1} → statement M
 first-rotation-spec = tie.close (tie.spec (λ c. search needs) (λ c. search needs) (λ c. search needs) (λ c. search needs) (λ c. search needs) (λ c. search needs) (λ c. search needs) (λ c. search needs) (λ c. search needs) (λ c. search needs) (λ c κs. search needs) (λ c. search needs) (λ c κs. search needs) (λ c κs. search needs) returns)

@@ -1,10 +1,10 @@
--- The first turn, the steps and the last push. Assumes nothing.
+-- `givens_iteration` meets its contract: the first turn, the steps and the last push. Assumes nothing.
 use borrow.Author.Needs.{needs}
 use mathlib.Core.Path.{_∙_}
 use native.Mathlib.Omega.{arith}
 use lib.Ieee.{binary64}
 use native.Mathlib.Nat.{mul-le-mul-right}
-use Rattle.svd.specs.Values.{sizes, roomy-kept, u-kept, v-kept}
+use Rattle.svd.specs.Values.{sizes, lending-kept}
 use Rattle.method.specs.Lengths.{onward, turned-kept, steps-kept}
 use Rattle.method.specs.Chase.{swept-is}
 use Rattle.svd.proofs.bulge_chasing.givens_iteration.Statement.{statement}
@@ -12,16 +12,16 @@ use Rattle.svd.proofs.bulge_chasing.givens_iteration.Tie as tie
 
 first-rotation-requires : tie.Need-first-rotation-requires
 first-rotation-requires c κs =
-    let st = c .before .before .before .before in
-    (omega arith, omega arith, omega arith, omega arith, omega (arith, mul-le-mul-right (st .args .z .stride) (st .pre .0)), st .pre .5, st .pre .6)
+    let at-start = c .before .before .before .before in
+    (record { wide = omega arith; few = omega arith; whole = omega (arith, mul-le-mul-right (at-start .args .z .stride) (at-start .pre .0 .in-rows)) }, at-start .pre .1 .table .stride-few, at-start .pre .2, at-start .pre .3)
 
 push-requires : tie.Need-push-requires
 push-requires c κs =
     let at-chase = c .before .before .before .before .before .before .before .before .before in
     let at-turn = at-chase .before .before .before .before .before .before .before .before .before .before in
-    let st = c .before .before .before .before .before .before .before .before .before .before .before .before .before .before .before .before .before .before .before .before .before .before .before .before .before .before .before .before in
-    let s = onward (turned-kept binary64 (sizes (st .args .z)) _ _ _ _ _ _ _ (at-turn .turn .ensures)) (steps-kept binary64 (sizes (st .args .z)) _ _ _ _ (at-chase .chase .ensures)) in
-    (omega arith, omega (arith, st .pre .0), omega (arith, st .pre .1), omega (arith, st .pre .0), omega (arith, st .pre .1), roomy-kept (sizes (st .args .z)) s (st .pre .2), u-kept (sizes (st .args .z)) s _ _ (st .pre .3), v-kept (sizes (st .args .z)) s _ _ (st .pre .4))
+    let at-start = c .before .before .before .before .before .before .before .before .before .before .before .before .before .before .before .before .before .before .before .before .before .before .before .before .before .before .before .before in
+    let s = onward (turned-kept binary64 (sizes (at-start .args .z)) _ _ _ _ _ _ _ (at-turn .turn .ensures)) (steps-kept binary64 (sizes (at-start .args .z)) _ _ _ _ (at-chase .chase .ensures)) in
+    (omega arith, at-start .pre .0, at-start .pre .0, lending-kept s (at-start .pre .1))
 
 returns : tie.Need-returns
 returns c =
@@ -29,8 +29,8 @@ returns c =
     let at-chase = at-push .before .before .before .before .before .before .before .before .before .before in
     let at-turn = at-chase .before .before .before .before .before .before .before .before .before .before in
     let at-first-rotation = at-turn .before .before .before .before in
-    let st = c .before .before .before .before .before .before .before .before .before .before .before .before .before .before .before .before .before .before .before .before .before .before .before .before .before .before .before .before .before .before .before .before .before .before .before in
-    swept-is binary64 (sizes (st .args .z)) (st .args .upper) (st .args .interior) _ _ _ _ _ (at-first-rotation .first-rotation .ensures) (at-turn .turn .ensures) (at-chase .chase .ensures) (at-push .push .ensures)
+    let at-start = c .before .before .before .before .before .before .before .before .before .before .before .before .before .before .before .before .before .before .before .before .before .before .before .before .before .before .before .before .before .before .before .before .before .before .before in
+    swept-is binary64 (sizes (at-start .args .z)) (at-start .args .upper) (at-start .args .interior) _ _ _ _ _ (at-first-rotation .first-rotation .ensures) (at-turn .turn .ensures) (at-chase .chase .ensures) (at-push .push .ensures)
 
 pub givens-iteration-spec : {M : Type 1} → statement M
 givens-iteration-spec = tie.close (tie.spec first-rotation-requires (λ c κs. search needs) (λ c κs. search needs) push-requires (λ c. c .before .before .before .before .before .before .push .kept .0 ∙ c .before .before .before .before .before .before .before .before .before .before .before .before .before .before .before .before .chase .kept .0 ∙ c .before .before .before .before .before .before .before .before .before .before .before .before .before .before .before .before .before .before .before .before .before .before .before .before .before .before .turn .kept .0) (λ c. c .before .before .before .before .before .before .push .kept .1 .0 ∙ c .before .before .before .before .before .before .before .before .before .before .before .before .before .before .before .before .chase .kept .1 .0 ∙ c .before .before .before .before .before .before .before .before .before .before .before .before .before .before .before .before .before .before .before .before .before .before .before .before .before .before .turn .kept .1 .0) (λ c. c .before .before .before .before .before .before .push .kept .1 .1 .0 ∙ c .before .before .before .before .before .before .before .before .before .before .before .before .before .before .before .before .chase .kept .1 .1 .0 ∙ c .before .before .before .before .before .before .before .before .before .before .before .before .before .before .before .before .before .before .before .before .before .before .before .before .before .before .turn .kept .1 .1 .0) returns)

@@ -1,4 +1,4 @@
--- The rotation of the two entries, and then the turn. Assumes nothing.
+-- `push` meets its contract: the rotation of the two entries, and then the turn. Assumes nothing.
 use borrow.Author.Needs.{needs}
 use mathlib.Core.Path.{_≡_, refl, ap, _∙_}
 use Prim.Native.Nat.{_+_, _-_, _*_, _<_, _≤_, zero-le}
@@ -9,13 +9,13 @@ use Rattle.svd.proofs.bulge_chasing.push.Tie as tie
 
 along-requires : tie.Need-along-requires
 along-requires c κs =
-    let st = c .before .before .before .before in
-    (omega (arith, row-in (st .args .i) (st .args .z .rows) (st .args .z .stride) (omega arith)), omega (arith, row-in (st .args .j) (st .args .z .rows) (st .args .z .stride) (omega arith)))
+    let at-start = c .before .before .before .before in
+    (omega (arith, row-in (at-start .args .i) (at-start .args .z .rows) (at-start .args .z .stride) (omega arith)), omega (arith, row-in (at-start .args .j) (at-start .args .z .rows) (at-start .args .z .stride) (omega arith)))
 
 along-requires-2 : tie.Need-along-requires-2
 along-requires-2 c κs =
-    let st = c .before .before .before .before .before .before in
-    (omega (arith, row-in (st .args .i + 1) (st .args .z .rows) (st .args .z .stride) (omega arith)), omega (arith, row-in (st .args .j) (st .args .z .rows) (st .args .z .stride) (omega arith)))
+    let at-start = c .before .before .before .before .before .before in
+    (omega (arith, row-in (at-start .args .i + 1) (at-start .args .z .rows) (at-start .args .z .stride) (omega arith)), omega (arith, row-in (at-start .args .j) (at-start .args .z .rows) (at-start .args .z .stride) (omega arith)))
 
 returns : tie.Need-returns
 returns c =

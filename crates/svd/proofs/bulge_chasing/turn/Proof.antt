@@ -1,4 +1,4 @@
--- By whether the lines are rows, which U follows, or columns, which V follows. Assumes nothing.
+-- `turn` meets its contract: by whether the lines are rows, which U follows, or columns, which V follows. Assumes nothing.
 use borrow.Author.Needs.{needs}
 use mathlib.Core.Path.{_≡_, refl, ap, _∙_}
 use native.Mathlib.Omega.{arith}
@@ -9,13 +9,13 @@ use Rattle.svd.proofs.bulge_chasing.turn.Tie as tie
 
 apply-g-left-requires : tie.Need-apply-g-left-requires
 apply-g-left-requires c κs =
-    let st = c .before .before .before .before .before in
-    (omega arith, omega arith, omega (arith, mul-le-mul-right (st .args .z .stride) (st .pre .0)))
+    let at-start = c .before .before .before .before .before in
+    record { wide = omega arith; few = omega arith; whole = omega (arith, mul-le-mul-right (at-start .args .z .stride) (at-start .pre .0 .in-rows)) }
 
 apply-gt-right-requires-2 : tie.Need-apply-gt-right-requires-2
 apply-gt-right-requires-2 c κs =
-    let st = c .before .before .before .before .before in
-    (omega arith, omega arith, omega (arith, mul-le-mul-right (st .args .z .stride) (st .pre .2)))
+    let at-start = c .before .before .before .before .before in
+    record { wide = omega arith; few = omega arith; whole = omega (arith, mul-le-mul-right (at-start .args .z .stride) (at-start .pre .1 .in-rows)) }
 
 returns : tie.Need-returns
 unfolding turned

@@ -1,4 +1,4 @@
--- After k turns a is `rowsTurned` in k columns. Assumes nothing.
+-- `apply_g_left` meets its contract: after k turns a is `rowsTurned` in k columns. Assumes nothing.
 use borrow.Author.Needs.{needs}
 use Prim.Native.Nat.{_+_, _-_, _*_, _<_, _≤_, zero-le}
 use mathlib.Core.Path.{_≡_, refl, ap, _∙_}
@@ -34,28 +34,28 @@ loop-holds c = (omega arith, refl, turns-none 0 _ _)
 
 add-turn-pair : tie.Need-add-turn-pair Inv-loop μ-loop
 add-turn-pair c =
-    let st = c .before .before .before .before in
-    omega (arith, row-next (st .args .i) (st .args .stride), row-next (st .args .i + 1) (st .args .stride))
+    let at-start = c .before .before .before .before in
+    omega (arith, row-next (at-start .args .i) (at-start .args .stride), row-next (at-start .args .i + 1) (at-start .args .stride))
 
 add-turn-pair-2 : tie.Need-add-turn-pair-2 Inv-loop μ-loop
 add-turn-pair-2 c =
-    let st = c .before .before .before .before in
-    omega (arith, row-next (st .args .i) (st .args .stride), row-next (st .args .i + 1) (st .args .stride))
+    let at-start = c .before .before .before .before in
+    omega (arith, row-next (at-start .args .i) (at-start .args .stride), row-next (at-start .args .i + 1) (at-start .args .stride))
 
 add-turn-pair-3 : tie.Need-add-turn-pair-3 Inv-loop μ-loop
 add-turn-pair-3 c =
-    let st = c .before .before .before .before in
-    omega (arith, row-next (st .args .i) (st .args .stride), row-next (st .args .i + 1) (st .args .stride))
+    let at-start = c .before .before .before .before in
+    omega (arith, row-next (at-start .args .i) (at-start .args .stride), row-next (at-start .args .i + 1) (at-start .args .stride))
 
 add-turn-pair-4 : tie.Need-add-turn-pair-4 Inv-loop μ-loop
 add-turn-pair-4 c =
-    let st = c .before .before .before .before in
-    omega (arith, row-next (st .args .i) (st .args .stride), row-next (st .args .i + 1) (st .args .stride))
+    let at-start = c .before .before .before .before in
+    omega (arith, row-next (at-start .args .i) (at-start .args .stride), row-next (at-start .args .i + 1) (at-start .args .stride))
 
 turn-pair-requires : tie.Need-turn-pair-requires Inv-loop μ-loop
 turn-pair-requires c κs =
-    let st = c .before .before .before .before in
-    (omega (arith, row-next (st .args .i) (st .args .stride), row-next (st .args .i + 1) (st .args .stride)), omega (arith, row-next (st .args .i) (st .args .stride), row-next (st .args .i + 1) (st .args .stride)))
+    let at-start = c .before .before .before .before in
+    (omega (arith, row-next (at-start .args .i) (at-start .args .stride), row-next (at-start .args .i + 1) (at-start .args .stride)), omega (arith, row-next (at-start .args .i) (at-start .args .stride), row-next (at-start .args .i + 1) (at-start .args .stride)))
 
 loop-again : tie.Need-loop-again Inv-loop μ-loop
 unfolding rowsTurned

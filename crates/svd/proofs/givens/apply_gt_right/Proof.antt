@@ -1,4 +1,4 @@
--- After k turns a is `columnsTurned` in k rows. Assumes nothing.
+-- `apply_gt_right` meets its contract: after k turns a is `columnsTurned` in k rows. Assumes nothing.
 use borrow.Author.Needs.{needs}
 use Prim.Native.Nat.{_+_, _-_, _*_, _<_, _≤_, zero-le}
 use mathlib.Core.Path.{_≡_, refl, ap, _∙_}
@@ -24,28 +24,28 @@ unfolding columnsTurned
 loop-holds c = (omega arith, refl, turns-none 0 _ _)
 
 add-row : tie.Need-add-row Inv-loop μ-loop
-add-row c = let st = c .before .before .before in omega (arith, row-fits (st .args .j) (st .args .stride) (c .loop-test .taken))
+add-row c = let at-start = c .before .before .before in omega (arith, row-fits (at-start .args .j) (at-start .args .stride) (c .loop-test .taken))
 
 mul-row : tie.Need-mul-row Inv-loop μ-loop
-mul-row c = let st = c .before .before .before in record { fits = omega (arith, row-fits (st .args .j) (st .args .stride) (c .loop-test .taken)) }
+mul-row c = let at-start = c .before .before .before in record { fits = omega (arith, row-fits (at-start .args .j) (at-start .args .stride) (c .loop-test .taken)) }
 
 add-turn-pair : tie.Need-add-turn-pair Inv-loop μ-loop
-add-turn-pair c = let st = c .before .before .before .before in omega (arith, row-fits (st .args .j) (st .args .stride) (c .before .loop-test .taken))
+add-turn-pair c = let at-start = c .before .before .before .before in omega (arith, row-fits (at-start .args .j) (at-start .args .stride) (c .before .loop-test .taken))
 
 add-turn-pair-2 : tie.Need-add-turn-pair-2 Inv-loop μ-loop
 add-turn-pair-2 c =
-    let st = c .before .before .before .before in
-    omega (arith, row-fits (st .args .j) (st .args .stride) (c .before .loop-test .taken))
+    let at-start = c .before .before .before .before in
+    omega (arith, row-fits (at-start .args .j) (at-start .args .stride) (c .before .loop-test .taken))
 
 add-turn-pair-3 : tie.Need-add-turn-pair-3 Inv-loop μ-loop
 add-turn-pair-3 c =
-    let st = c .before .before .before .before in
-    omega (arith, row-fits (st .args .j) (st .args .stride) (c .before .loop-test .taken))
+    let at-start = c .before .before .before .before in
+    omega (arith, row-fits (at-start .args .j) (at-start .args .stride) (c .before .loop-test .taken))
 
 turn-pair-requires : tie.Need-turn-pair-requires Inv-loop μ-loop
 turn-pair-requires c κs =
-    let st = c .before .before .before .before in
-    (omega (arith, row-fits (st .args .j) (st .args .stride) (c .before .loop-test .taken)), omega (arith, row-fits (st .args .j) (st .args .stride) (c .before .loop-test .taken)))
+    let at-start = c .before .before .before .before in
+    (omega (arith, row-fits (at-start .args .j) (at-start .args .stride) (c .before .loop-test .taken)), omega (arith, row-fits (at-start .args .j) (at-start .args .stride) (c .before .loop-test .taken)))
 
 loop-again : tie.Need-loop-again Inv-loop μ-loop
 unfolding columnsTurned

@@ -1,4 +1,4 @@
--- By the three cases of the rule. Assumes nothing.
+-- `implicit_givens_rotation` meets its contract: by the three cases of the rule. Assumes nothing.
 use borrow.Author.Needs.{needs}
 use mathlib.Core.Path.{refl}
 use Rattle.method.specs.Rotation.{rotation-zero, rotation-sine, rotation-cosine}

@@ -1,4 +1,4 @@
--- The two stores are `pairTurned`. Assumes nothing.
+-- `turn_pair` meets its contract: the two stores are `pairTurned`. Assumes nothing.
 use borrow.Author.Needs.{needs}
 use mathlib.Core.Path.{refl}
 use Rattle.method.specs.Rotation.{pairTurned}

@@ -1,4 +1,4 @@
--- After l turns w is `rowAdded` of l entries. Assumes nothing.
+-- `add_row` meets its contract: after l turns w is `rowAdded` of l entries. Assumes nothing.
 use borrow.Author.Needs.{needs}
 use Prim.Native.Nat.{_+_, _-_, _*_, _<_, _≤_, zero-le}
 use mathlib.Core.Path.{_≡_, refl, ap, _∙_}

@@ -1,4 +1,4 @@
--- The three steps of `reflectedLeft`, over a blank vector. Assumes nothing.
+-- `lapply_householder` meets its contract: the three steps of `reflectedLeft`, over a blank vector. Assumes nothing.
 use borrow.Author.Needs.{needs}
 use Rattle.method.specs.Reflection.{reflectedLeft}
 use Rattle.method.specs.Floats.{plusZero-64}
@@ -11,9 +11,9 @@ sum-columns-requires c κs = rw plusZero-64 (search needs)
 returns : tie.Need-returns
 unfolding reflectedLeft
 returns c =
-    let at-scale-all = c .before .before .before .before .before .before in
-    let at-sum-columns = at-scale-all .before .before .before in
-    rw (c .before .before .rows-less .ensures, at-scale-all .scale-all .ensures, at-sum-columns .sum-columns .ensures)
+    let at-scale-from = c .before .before .before .before .before .before in
+    let at-sum-columns = at-scale-from .before .before .before in
+    rw (c .before .before .rows-less .ensures, at-scale-from .scale-from .ensures, at-sum-columns .sum-columns .ensures)
 
 pub lapply-householder-spec : {M : Type 1} → statement M
 lapply-householder-spec = tie.close (tie.spec (λ c. search needs) sum-columns-requires (λ c. search needs) (λ c κs. search needs) (λ c. search needs) (λ c κs. search needs) (λ c. search needs) returns)

@@ -1,4 +1,4 @@
--- After k turns max is `largestOf` k entries. Assumes nothing.
+-- `largest` meets its contract: after k turns max is `largestOf` k entries. Assumes nothing.
 use borrow.Author.Needs.{needs}
 use Prim.Native.Nat.{_+_, _-_, _*_, _<_, _≤_, zero-le}
 use mathlib.Core.Path.{_≡_, refl, ap, _∙_}
@@ -24,8 +24,8 @@ loop-holds c = (omega arith, plusZero-64 ∙ turns-none 0 _ _)
 loop-again : tie.Need-loop-again Inv-loop μ-loop
 unfolding largestOf
 loop-again c =
-    let lp = c .before .before .before .before in
-    (omega arith, ⊎-elim (λ w. w .1 ∙ widened-taken _ _ _ (w .0 .taken) (c .before .magnitude .ensures) ∙ turns-more 0 _ _ _ _ zero-le (lp .loop .inv .1)) (λ w. w .1 ∙ widened-left _ _ _ (w .0 .left) (c .before .magnitude .ensures) ∙ turns-more 0 _ _ _ _ zero-le (lp .loop .inv .1)) (c .if1 .came))
+    let at-loop = c .before .before .before .before in
+    (omega arith, ⊎-elim (λ w. w .1 ∙ widened-taken _ _ _ (w .0 .taken) (c .before .magnitude .ensures) ∙ turns-more 0 _ _ _ _ zero-le (at-loop .loop .inv .1)) (λ w. w .1 ∙ widened-left _ _ _ (w .0 .left) (c .before .magnitude .ensures) ∙ turns-more 0 _ _ _ _ zero-le (at-loop .loop .inv .1)) (c .if1 .came))
 
 returns : tie.Need-returns Inv-loop μ-loop
 returns c = rw (le-antisymm (c .before .loop .inv .0) (c .loop-test .left)) at (c .before .loop .inv .1)

@@ -1,4 +1,4 @@
--- By the two cases of `reflectionOf`: below the floor, and not. Assumes nothing.
+-- `params` meets its contract: by the two cases of `reflectionOf`, below the floor and not. Assumes nothing.
 use borrow.Author.Needs.{needs}
 use mathlib.Core.Path.{_≡_, refl, ap, _∙_}
 use native.Mathlib.Omega.{arith}
@@ -13,28 +13,28 @@ slice-write-p c = omega (arith, blank-length _ (c .before .before .before .befor
 
 returns : tie.Need-returns
 returns c =
-    let st = c .before .before .before .before .before in
-    rw (plusZero-64, one-64, st .pre .3) (reflection-small _ _ _ _ _ (rw (c .before .largest .ensures) at (c .if1 .taken)))
+    let at-start = c .before .before .before .before .before in
+    rw (plusZero-64, one-64, at-start .pre .3) (reflection-small _ _ _ _ _ (rw (c .before .largest .ensures) at (c .if1 .taken)))
 
 squares-requires : tie.Need-squares-requires
 squares-requires c κs =
-    let st = c .before .before .before .before .before .before .before .before .before .before .before .before .before .before .before in
-    omega (arith, blank-length _ (st .pre .3))
+    let at-start = c .before .before .before .before .before .before .before .before .before .before .before .before .before .before .before in
+    omega (arith, blank-length _ (at-start .pre .3))
 
 slice-read-head : tie.Need-slice-read-head
 slice-read-head c =
-    let st = c .before .before .before .before .before .before .before .before .before .before .before .before .before .before .before .before .before in
-    omega (arith, blank-length _ (st .pre .3))
+    let at-start = c .before .before .before .before .before .before .before .before .before .before .before .before .before .before .before .before .before in
+    omega (arith, blank-length _ (at-start .pre .3))
 
-scale-tail-requires : tie.Need-scale-tail-requires
-scale-tail-requires c κs =
-    let st = c .before .before .before .before .before .before .before .before .before .before .before .before .before .before .before .before .before .before .before .before in
-    (omega arith, omega (arith, blank-length _ (st .pre .3)))
+scale-from-requires : tie.Need-scale-from-requires
+scale-from-requires c κs =
+    let at-start = c .before .before .before .before .before .before .before .before .before .before .before .before .before .before .before .before .before .before .before .before in
+    (omega arith, omega (arith, blank-length _ (at-start .pre .3)))
 
 slice-write-p-2 : tie.Need-slice-write-p-2
 slice-write-p-2 c =
-    let st = c .before .before .before .before .before .before .before .before .before .before .before .before .before .before .before .before .before .before .before .before .before .before .before in
-    omega (arith, blank-length _ (st .pre .3))
+    let at-start = c .before .before .before .before .before .before .before .before .before .before .before .before .before .before .before .before .before .before .before .before .before .before .before in
+    omega (arith, blank-length _ (at-start .pre .3))
 
 same-length-4 : tie.Need-same-length-4
 same-length-4 c = simp length-set (omega arith)
@@ -44,11 +44,11 @@ returns-2 c =
     let at-square-root = c .before .before .before .before in
     let at-sign = at-square-root .before in
     let at-squares = at-sign .before .before in
-    let at-clear = at-squares .before .before .before .before in
-    let at-scale-into = at-clear .before .before .before .before in
+    let at-clear-line = at-squares .before .before .before .before in
+    let at-scale-into = at-clear-line .before .before .before .before in
     let at-if1 = at-scale-into .before .before .before in
     let at-largest = at-if1 .before in
-    rw one-64 (reflection-large _ _ _ _ _ _ _ _ _ _ _ _ (at-largest .largest .ensures) (at-if1 .if1 .left) (rw one-64 at (at-scale-into .scale-into .ensures)) (at-clear .clear .ensures) (at-squares .squares .ensures) (at-sign .sign .ensures) (at-square-root .square-root .ensures) (rw one-64 at (c .before .before .scale-tail .ensures)))
+    rw one-64 (reflection-large _ _ _ _ _ _ _ _ _ _ _ _ (at-largest .largest .ensures) (at-if1 .if1 .left) (rw one-64 at (at-scale-into .scale-into .ensures)) (at-clear-line .clear-line .ensures) (at-squares .squares .ensures) (at-sign .sign .ensures) (at-square-root .square-root .ensures) (rw one-64 at (c .before .before .scale-from .ensures)))
 
 pub params-spec : {M : Type 1} → statement M
-params-spec = tie.close (tie.spec (λ c κs. search needs) slice-write-p (λ c. search needs) (λ c. search needs) returns (λ c κs. search needs) (λ c κs. search needs) squares-requires slice-read-head (λ c κs. search needs) (λ c κs. search needs) scale-tail-requires (λ c. search needs) (λ c. search needs) slice-write-p-2 (λ c. search needs) same-length-4 returns-2)
+params-spec = tie.close (tie.spec (λ c κs. search needs) slice-write-p (λ c. search needs) (λ c. search needs) returns (λ c κs. search needs) (λ c κs. search needs) squares-requires slice-read-head (λ c κs. search needs) (λ c κs. search needs) scale-from-requires (λ c. search needs) (λ c. search needs) slice-write-p-2 (λ c. search needs) same-length-4 returns-2)

@@ -1,4 +1,4 @@
--- After k turns a is `reflectedRight` of k rows. Assumes nothing.
+-- `rapply_householder` meets its contract: after k turns a is `reflectedRight` of k rows. Assumes nothing.
 use borrow.Author.Needs.{needs}
 use Prim.Native.Nat.{_+_, _-_, _*_, _<_, _≤_, zero-le}
 use mathlib.Core.Path.{_≡_, refl, ap, _∙_}
@@ -23,20 +23,20 @@ unfolding reflectedRight
 loop-holds c = (omega arith, refl, turns-none 0 _ _)
 
 add-off : tie.Need-add-off Inv-loop μ-loop
-add-off c = let st = c .before .before .before .before in omega (arith, row-fits (st .args .i) (st .args .stride) (c .loop-test .taken))
+add-off c = let at-start = c .before .before .before .before in omega (arith, row-fits (at-start .args .i) (at-start .args .stride) (c .loop-test .taken))
 
 mul-off : tie.Need-mul-off Inv-loop μ-loop
 mul-off c =
-    let st = c .before .before .before .before in
-    record { fits = omega (arith, row-fits (st .args .i) (st .args .stride) (c .loop-test .taken)) }
+    let at-start = c .before .before .before .before in
+    record { fits = omega (arith, row-fits (at-start .args .i) (at-start .args .stride) (c .loop-test .taken)) }
 
 add-off-2 : tie.Need-add-off-2 Inv-loop μ-loop
-add-off-2 c = let st = c .before .before .before .before in omega (arith, row-fits (st .args .i) (st .args .stride) (c .loop-test .taken))
+add-off-2 c = let at-start = c .before .before .before .before in omega (arith, row-fits (at-start .args .i) (at-start .args .stride) (c .loop-test .taken))
 
 reflect-row-requires : tie.Need-reflect-row-requires Inv-loop μ-loop
 reflect-row-requires c κs =
-    let st = c .before .before .before .before .before in
-    (omega arith, omega arith, omega (arith, row-fits (st .args .i) (st .args .stride) (c .before .loop-test .taken)))
+    let at-start = c .before .before .before .before .before in
+    (omega arith, omega arith, omega (arith, row-fits (at-start .args .i) (at-start .args .stride) (c .before .loop-test .taken)))
 
 loop-again : tie.Need-loop-again Inv-loop μ-loop
 unfolding reflectedRight

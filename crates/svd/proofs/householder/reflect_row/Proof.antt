@@ -1,4 +1,4 @@
--- The product and then the subtraction, as `rowReflected` has them. Assumes nothing.
+-- `reflect_row` meets its contract: the product and then the subtraction, as `rowReflected` has them. Assumes nothing.
 use borrow.Author.Needs.{needs}
 use Rattle.method.specs.Reflection.{rowReflected}
 use Rattle.svd.proofs.householder.reflect_row.Statement.{statement}

@@ -1,4 +1,4 @@
--- After the turns up to k, a is `tailLess` of k entries, of the row whose head is done. Assumes nothing.
+-- `row_less` meets its contract: after the turns up to k, a is `tailLess` of k entries, of the row whose head is done. Assumes nothing.
 use borrow.Author.Needs.{needs}
 use Prim.Native.Nat.{_+_, _-_, _*_, _<_, _≤_, zero-le}
 use mathlib.Core.Path.{_≡_, refl, ap, _∙_}

@@ -1,4 +1,4 @@
--- After l turns a is `rowLessAll` of l entries. Assumes nothing.
+-- `row_less_all` meets its contract: after l turns a is `rowLessAll` of l entries. Assumes nothing.
 use borrow.Author.Needs.{needs}
 use Prim.Native.Nat.{_+_, _-_, _*_, _<_, _≤_, zero-le}
 use mathlib.Core.Path.{_≡_, refl, ap, _∙_}

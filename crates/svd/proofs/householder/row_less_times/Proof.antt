@@ -1,4 +1,4 @@
--- After l turns a is `rowLessTimes` of l entries. Assumes nothing.
+-- `row_less_times` meets its contract: after l turns a is `rowLessTimes` of l entries. Assumes nothing.
 use borrow.Author.Needs.{needs}
 use Prim.Native.Nat.{_+_, _-_, _*_, _<_, _≤_, zero-le}
 use mathlib.Core.Path.{_≡_, refl, ap, _∙_}

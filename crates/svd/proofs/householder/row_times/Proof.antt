@@ -1,4 +1,4 @@
--- After the turns up to k, the sum is `rowTimes` of k entries. Assumes nothing.
+-- `row_times` meets its contract: after the turns up to k, the sum is `rowTimes` of k entries. Assumes nothing.
 use borrow.Author.Needs.{needs}
 use Prim.Native.Nat.{_+_, _-_, _*_, _<_, _≤_, zero-le}
 use mathlib.Core.Path.{_≡_, refl, ap, _∙_}

@@ -1,4 +1,4 @@
--- After the turns up to k, a is `lowerLess` of k rows, once the first is done. Assumes nothing.
+-- `rows_less` meets its contract: after the turns up to k, a is `lowerLess` of k rows, once the first is done. Assumes nothing.
 use borrow.Author.Needs.{needs}
 use Prim.Native.Nat.{_+_, _-_, _*_, _<_, _≤_, zero-le}
 use mathlib.Core.Path.{_≡_, refl, ap, _∙_}
@@ -20,16 +20,16 @@ abbrev μ-loop : tie.MeasureT-loop
 
 mul-row-less-all : tie.Need-mul-row-less-all Inv-loop μ-loop
 mul-row-less-all c =
-    let st = c .before .before .before .before in
-    record { fits = omega (arith, row-fits (st .args .i) (st .args .stride) (st .pre .0)) }
+    let at-start = c .before .before .before .before in
+    record { fits = omega (arith, row-fits (at-start .args .i) (at-start .args .stride) (at-start .pre .0)) }
 
 add-row-less-all : tie.Need-add-row-less-all Inv-loop μ-loop
-add-row-less-all c = let st = c .before .before .before .before in omega (arith, row-fits (st .args .i) (st .args .stride) (st .pre .0))
+add-row-less-all c = let at-start = c .before .before .before .before in omega (arith, row-fits (at-start .args .i) (at-start .args .stride) (at-start .pre .0))
 
 row-less-all-requires : tie.Need-row-less-all-requires Inv-loop μ-loop
 row-less-all-requires c κs =
-    let st = c .before .before .before .before in
-    (omega (arith, row-fits (st .args .i) (st .args .stride) (st .pre .0)), omega arith)
+    let at-start = c .before .before .before .before in
+    (omega (arith, row-fits (at-start .args .i) (at-start .args .stride) (at-start .pre .0)), omega arith)
 
 loop-holds : tie.Need-loop-holds Inv-loop μ-loop
 unfolding lowerLess
@@ -37,29 +37,29 @@ loop-holds c = (omega arith, omega arith, refl, turns-none 1 _ _)
 
 add-off : tie.Need-add-off Inv-loop μ-loop
 add-off c =
-    let st = c .before .before .before .before .before .before .before .before .before in
-    omega (arith, row-fits (st .args .i) (st .args .stride) (c .loop-test .taken))
+    let at-start = c .before .before .before .before .before .before .before .before .before in
+    omega (arith, row-fits (at-start .args .i) (at-start .args .stride) (c .loop-test .taken))
 
 mul-off : tie.Need-mul-off Inv-loop μ-loop
 mul-off c =
-    let st = c .before .before .before .before .before .before .before .before .before in
-    record { fits = omega (arith, row-fits (st .args .i) (st .args .stride) (c .loop-test .taken)) }
+    let at-start = c .before .before .before .before .before .before .before .before .before in
+    record { fits = omega (arith, row-fits (at-start .args .i) (at-start .args .stride) (c .loop-test .taken)) }
 
 add-off-2 : tie.Need-add-off-2 Inv-loop μ-loop
 add-off-2 c =
-    let st = c .before .before .before .before .before .before .before .before .before in
-    omega (arith, row-fits (st .args .i) (st .args .stride) (c .loop-test .taken))
+    let at-start = c .before .before .before .before .before .before .before .before .before in
+    omega (arith, row-fits (at-start .args .i) (at-start .args .stride) (c .loop-test .taken))
 
 row-less-times-requires : tie.Need-row-less-times-requires Inv-loop μ-loop
 row-less-times-requires c κs =
-    let st = c .before .before .before .before .before .before .before .before .before .before .before in
-    (omega (arith, row-fits (st .args .i) (st .args .stride) (c .before .before .loop-test .taken)), omega arith)
+    let at-start = c .before .before .before .before .before .before .before .before .before .before .before in
+    (omega (arith, row-fits (at-start .args .i) (at-start .args .stride) (c .before .before .loop-test .taken)), omega arith)
 
 loop-again : tie.Need-loop-again Inv-loop μ-loop
 unfolding lowerLess
 loop-again c =
-    let lp = c .before .before .before .before .before .before in
-    (omega arith, omega arith, omega arith, rw (c .before .before .row-less-times .ensures) (turns-more 1 _ _ _ _ (lp .loop .inv .0) (lp .loop .inv .3)))
+    let at-loop = c .before .before .before .before .before .before in
+    (omega arith, omega arith, omega arith, rw (c .before .before .row-less-times .ensures) (turns-more 1 _ _ _ _ (at-loop .loop .inv .0) (at-loop .loop .inv .3)))
 
 returns : tie.Need-returns Inv-loop μ-loop
 unfolding rowsLess

@@ -1,4 +1,4 @@
--- After k turns the sum is `squaresOf` k entries. Assumes nothing.
+-- `squares` meets its contract: after k turns the sum is `squaresOf` k entries. Assumes nothing.
 use borrow.Author.Needs.{needs}
 use Prim.Native.Nat.{_+_, _-_, _*_, _<_, _≤_, zero-le}
 use mathlib.Core.Path.{_≡_, refl, ap, _∙_}

@@ -1,10 +1,10 @@
--- The bidiagonal form, and then passes enough. Assumes nothing.
+-- `decompose` meets its contract: the bidiagonal form, and then passes enough. Assumes nothing.
 use borrow.Author.Needs.{needs}
 use native.Mathlib.Omega.{arith}
 use lib.Ieee.{binary64}
 use Rattle.method.specs.Lengths.{bidiagonal-kept}
 use Rattle.checks.specs.Values.{settingsOf}
-use Rattle.svd.specs.Values.{sizes, roomy-kept, u-kept, v-kept}
+use Rattle.svd.specs.Values.{sizes, lending-kept}
 use Rattle.svd.specs.Passes.{first-standing, decomposed}
 use Rattle.svd.proofs.interface.decompose.Statement.{statement}
 use Rattle.svd.proofs.interface.decompose.Tie as tie
@@ -13,9 +13,9 @@ decomp-givens-requires : tie.Need-decomp-givens-requires
 decomp-givens-requires c κs =
     let at-bidiagonal = c .before .before .before .before .before .before .before .before .before .before in
     let at-smaller-size = at-bidiagonal .before .before .before .before in
-    let st = c .before .before .before .before .before .before .before .before .before .before .before .before .before .before .before .before .before .before .before in
-    let k = bidiagonal-kept binary64 (st .args .s .floor) (sizes (st .args .z)) _ _ _ _ (at-bidiagonal .bidiagonal .ensures) in
-    (roomy-kept (sizes (st .args .z)) k (st .pre .4), u-kept (sizes (st .args .z)) k _ _ (st .pre .5), v-kept (sizes (st .args .z)) k _ _ (st .pre .6), first-standing (sizes (st .args .z)) _ _ _ (at-smaller-size .smaller-size .ensures .2) (at-smaller-size .smaller-size .ensures .3) (c .before .before .before .new .ensures .0) (c .before .before .before .new .ensures .1))
+    let at-start = c .before .before .before .before .before .before .before .before .before .before .before .before .before .before .before .before .before .before .before in
+    let k = bidiagonal-kept binary64 (at-start .args .s .floor) (sizes (at-start .args .z)) _ _ _ _ (at-bidiagonal .bidiagonal .ensures) in
+    (lending-kept k (at-start .pre .3), first-standing (sizes (at-start .args .z)) _ _ _ (record { in-rows = at-smaller-size .smaller-size .ensures .2; in-cols = at-smaller-size .smaller-size .ensures .3 }) (c .before .before .before .new .ensures .0) (c .before .before .before .new .ensures .1))
 
 returns : tie.Need-returns
 returns c =
@@ -23,8 +23,8 @@ returns c =
     let at-new = at-decomp-givens .before .before .before .before in
     let at-bidiagonal = at-new .before .before .before .before .before .before .before in
     let at-smaller-size = at-bidiagonal .before .before .before .before in
-    let st = c .before .before .before .before .before .before .before .before .before .before .before .before .before .before .before .before .before .before .before .before .before .before .before .before .before .before in
-    decomposed (sizes (st .args .z)) (settingsOf (st .args .s)) _ _ _ _ _ _ (at-smaller-size .smaller-size .ensures .0) (omega (arith, at-smaller-size .smaller-size .ensures .2, st .pre .4 .rows-few)) (st .pre .2) (st .pre .3) (at-bidiagonal .bidiagonal .ensures) (at-new .new .ensures .0) (at-decomp-givens .decomp-givens .ensures)
+    let at-start = c .before .before .before .before .before .before .before .before .before .before .before .before .before .before .before .before .before .before .before .before .before .before .before .before .before .before in
+    decomposed (sizes (at-start .args .z)) (settingsOf (at-start .args .s)) _ _ _ _ _ _ (at-smaller-size .smaller-size .ensures .0) (omega (arith, at-smaller-size .smaller-size .ensures .2, at-start .pre .3 .table .rows-few)) (at-start .pre .1) (at-start .pre .2) (at-bidiagonal .bidiagonal .ensures) (at-new .new .ensures .0) (at-decomp-givens .decomp-givens .ensures)
 
 pub decompose-spec : {M : Type 1} → statement M
 decompose-spec = tie.close (tie.spec (λ c κs. search needs) (λ c κs. search needs) (λ c κs. search needs) decomp-givens-requires (λ c. search needs) (λ c. search needs) (λ c. search needs) returns)

@@ -1,4 +1,4 @@
--- By the test. Assumes nothing.
+-- `smaller_size` meets its contract: by the test. Assumes nothing.
 use borrow.Author.Needs.{needs}
 use mathlib.Core.Path.{_≡_, refl, ap, _∙_}
 use native.Mathlib.Omega.{arith}

@@ -1,4 +1,4 @@
--- Operation by operation. Assumes nothing.
+-- `singular` meets its contract: operation by operation. Assumes nothing.
 use borrow.Author.Needs.{needs}
 use Rattle.method.specs.Chase.{singular}
 use Rattle.method.specs.Floats.{plusZero-64, two-64}
