@@ -32,11 +32,13 @@ def leaking_stopping():
     area = [10.2, 9.8, 10.6, 11.1, 10.4, 9.9, 10.3, 10.8, 11.4, 10.1, 9.7, 10.5]
     fan = [1.03, 1.02, 1, 0.99, 0.98, 0.96]
     velocity = [(25 if i < 6 else 18) / a for i, a in enumerate(area)]
-    rule = RULE.format(error=0.03) + listed("fan", fan) + listed("area", area)
-    rule += "#   velocity[i] = quantity / area[i]; the quantity is 25 m3/s at stations 0 to 5 and 18 m3/s from station 6 on\n"
+    rule = RULE.format(error=0.03) + listed("fan", fan)
+    rule += "#   velocity[i] = quantity / area[i], the areas of the line above in m2;\n"
+    rule += "#   the quantity is 25 m3/s at stations 0 to 5 and 18 m3/s from station 6 on\n"
     write("leaking-stopping", 101, "A roadway with a leaking stopping",
           ["A stopping between stations 5 and 6 leaks 7 of 25 m3/s; the air does not come back further in.",
-           "The fan falls off by some 7 percent over the six passes. The instrument is good to 3 percent."],
+           "The fan falls off by some 7 percent over the six passes. The instrument is good to 3 percent.",
+           "area " + " ".join(map(str, area))],
           rule, readings(velocity, fan, 0.03))
 
 

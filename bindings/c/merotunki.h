@@ -1,6 +1,7 @@
 /* merotunki.h: the proved singular value split of a survey's table, for C and C++.
  *
- * Link libapp.a: target/staticlib (x86-64) or target/native (the machine that built it); `bindings/build` makes both.
+ * Link libmerotunki.a for the machine that you build for: 64-bit Arm or x86-64, Linux, Android or iOS. It needs nothing
+ * else. The program calls merotunki_fits() once at its start: it tells whether the library linked is this header's.
  *
  * TABLES are packed and row-major. Stations are the rows, passes are the columns: the reading of station i in pass j
  * is matrix[i * columns + j]. U has rows x rows entries and goes with the stations (row 4 of U is station 4), V has
@@ -24,9 +25,10 @@
  *   - The slices of one call, and its answer, do not overlap.
  *   - The thread's floating point is as C starts it: round to nearest, subnormal numbers kept (no flush to zero).
  *
- * MEMORY AND THREADS. No heap, no global state, no locks, no files; of other libraries memcpy and memset alone are
- * called. Several threads may call at once, each on buffers of its own. A call uses less than 2,048 bytes of stack:
- * `bindings/stack` measures it, 1,584 on 64-bit Arm and 1,664 on x86-64 at most.
+ * MEMORY AND THREADS. No heap, no global state, no locks, no files; of other libraries memcpy and memset alone (on
+ * iOS bzero) are called. Several threads may call at once, each on buffers of its own. A call uses less than 2,048
+ * bytes of stack: measured, 1,584 on 64-bit Arm and 1,664 on x86-64 at most. On 64-bit Arm x18 is left alone: a caller
+ * built with a shadow call stack keeps it.
  *
  * HOW THE CALLS ARE MADE. A slice is a pointer and a length, one after the other. An answer or choice is written where
  * the first argument points, and that pointer is handed back. On x86-64 (System V, so not Windows) this is also how C
@@ -43,6 +45,11 @@
 #ifdef __cplusplus
 extern "C" {
 #endif
+
+/* The version of library and header, and the number of the layout of the structs below. The layout rises whenever a
+ * struct changes, so that a program built for one is not run on another. */
+#define MEROTUNKI_VERSION "0.2.0"
+#define MEROTUNKI_LAYOUT 1
 
 /* The largest number of rows and of columns, and the largest limit and credit. */
 #define MEROTUNKI_MOST 48
@@ -119,6 +126,11 @@ merotunki_part merotunki_row(const double *u, size_t u_length, const double *v, 
 
 /* The double nearest to the root of x. -0, +0 and +infinity stay; below zero and NaN give NaN. */
 double merotunki_square_root(double x);
+
+/* The number of the library's own layout, and whether it is this header's: 1, or 0 where the program was linked with
+ * another library than it was compiled for. Then make no other call. */
+uint64_t merotunki_layout(void);
+static inline int merotunki_fits(void) { return merotunki_layout() == MEROTUNKI_LAYOUT; }
 
 #ifdef __cplusplus
 }

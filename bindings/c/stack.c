@@ -33,6 +33,7 @@ typedef struct calls {
     merotunki_part (*row)(ROW_LIST);
     double (*root)(double x);
     merotunki_choice *(*defaults)(merotunki_choice *choice);
+    uint64_t (*layout)(void);
 } calls;
 
 #pragma GCC diagnostic ignored "-Wunused-parameter"
@@ -42,11 +43,12 @@ static uint64_t no_identity(double *a, size_t al, size_t n) { return 0; }
 static merotunki_part no_row(ROW_LIST) { return (merotunki_part){0, 0}; }
 static double no_root(double x) { return x; }
 static merotunki_choice *no_defaults(merotunki_choice *choice) { return choice; }
+static uint64_t no_layout(void) { return 0; }
 #pragma GCC diagnostic warning "-Wunused-parameter"
 
-static const calls real = {merotunki_svd, merotunki_full_svd,    merotunki_identity,
-                           merotunki_row, merotunki_square_root, merotunki_defaults};
-static const calls none = {no_svd, no_full, no_identity, no_row, no_root, no_defaults};
+static const calls real = {merotunki_svd,         merotunki_full_svd, merotunki_identity, merotunki_row,
+                           merotunki_square_root, merotunki_defaults, merotunki_layout};
+static const calls none = {no_svd, no_full, no_identity, no_row, no_root, no_defaults, no_layout};
 static const calls *volatile chosen; /* not known to the compiler, so that none of them is left out */
 
 /* What the next call is made on. */
@@ -67,6 +69,7 @@ static void identity(void) { number = chosen->identity(u, rows * rows, rows); }
 static void row(void) { part = chosen->row(u, rows * rows, v, columns * columns, rows, columns, limit % 3, rows - 1); }
 static void root(void) { value = chosen->root(value); }
 static void defaults(void) { chosen->defaults(&choice); }
+static void layout(void) { number = chosen->layout(); }
 
 static inline unsigned char *pointer(void) {
     unsigned char *here;
@@ -131,6 +134,7 @@ static void *measure(void *given) {
     most("merotunki_row", row, 0);
     most("merotunki_square_root", root, 0);
     most("merotunki_defaults", defaults, 0);
+    most("merotunki_layout", layout, 0);
     return given;
 }
 

@@ -326,6 +326,7 @@ static void settings_and_roots(void) {
     CHECK(merotunki_defaults(&choice) == &choice);
     CHECK(choice.limit == 100 && choice.credit == 50);
     CHECK(choice.tolerance == 1e-10 && choice.absolute == 1e-12 && choice.floor == 1e-21);
+    CHECK(merotunki_layout() == MEROTUNKI_LAYOUT && merotunki_fits() == 1);
     CHECK(bits(merotunki_square_root(2.0)) == UINT64_C(0x3FF6A09E667F3BCD));
     CHECK(isnan(merotunki_square_root(-1.0)) && isnan(merotunki_square_root(NAN)));
     CHECK(bits(merotunki_square_root(-0.0)) == bits(-0.0) && bits(merotunki_square_root(0.0)) == 0);

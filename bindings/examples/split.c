@@ -6,6 +6,7 @@ int main(void) {
     double table[12] = {1.2, 1.4, 1.1, 2.4, 2.5, 2.9, 1.9, 2.6, 1.8, 0.7, 0.9, 1.3}, u[16], v[9];
     merotunki_choice c;
     merotunki_answer a;
+    if (!merotunki_fits()) return puts("linked with another library than merotunki.h is for"), 1;
     merotunki_defaults(&c);
     merotunki_identity(u, 16, 4);
     merotunki_identity(v, 9, 3);

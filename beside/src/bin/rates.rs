@@ -1,6 +1,9 @@
-//! rates [DRAWS]: how often the original stops, with the default settings, on tables like a survey's: DRAWS (200 where
-//! none is given) drawn tables of each kind and shape, always the same ones. Prints, per kind and shape, how many of a
-//! hundred stopped and the median of the passes of those that settled.
+//! rates [DRAWS]: how often the original stops on tables like a survey's, and what can be shown all the same: DRAWS (200
+//! where none is given) drawn tables of each kind and shape, always the same ones. Prints four tables for docs/GUIDE.md:
+//! with the default settings, for shapes with few passes and then for others, how many of a hundred stopped and the
+//! median of the passes of those that settled; over all these shapes, how many stopped and for how many of them the
+//! readings confirm the strongest part; and how many stop at greater limits, up to the greatest that is allowed. With 200
+//! draws it takes about 50 seconds on one core, nearly all of it for the limit of 100,000.
 
 use beside::{Settings, Word, run};
 
@@ -35,24 +38,52 @@ fn survey(draw: &mut Draw, rows: usize, cols: usize, noise: f64, steps: bool) ->
     (0..rows * cols).map(&mut reading).collect()
 }
 
-type Table = fn(&mut Draw, usize, usize) -> Vec<f64>;
+/// A survey whose first pass is all 0, with that pass moved to `place`.
+fn pass_of_zeros(draw: &mut Draw, rows: usize, cols: usize, place: usize) -> Vec<f64> {
+    let mut table = survey(draw, rows, cols, 0.03, true);
+    for row in table.chunks_mut(cols) {
+        row[0] = 0.0;
+        row[..=place].rotate_left(1);
+    }
+    table
+}
 
-const KINDS: [(&str, Table); 10] = [
+/// A survey whose first station is all 0, with that station moved to `place`.
+fn station_of_zeros(draw: &mut Draw, rows: usize, cols: usize, place: usize) -> Vec<f64> {
+    let mut table = survey(draw, rows, cols, 0.03, true);
+    table[..cols].fill(0.0);
+    table[..(place + 1) * cols].rotate_left(cols);
+    table
+}
+
+type Shape = (usize, usize);
+type Table = fn(&mut Draw, usize, usize) -> Vec<f64>;
+type Kind = (&'static str, Table);
+
+const NOISE_3: Kind = ("survey, noise 3 %, read to 0.01", |draw, rows, cols| {
+    survey(draw, rows, cols, 0.03, true)
+});
+const NOISE_HALF: Kind = ("survey, noise 0.5 %, read to 0.01", |draw, rows, cols| {
+    survey(draw, rows, cols, 0.005, true)
+});
+const NOISE_TENTH: Kind = ("survey, noise 0.1 %, not rounded", |draw, rows, cols| {
+    survey(draw, rows, cols, 1e-3, false)
+});
+const FIRST_PASS: Kind = (
+    "survey, noise 3 %, the first pass all 0",
+    |draw, rows, cols| pass_of_zeros(draw, rows, cols, 0),
+);
+
+const KINDS: [Kind; 15] = [
     ("any readings, -1 to 1", |draw, rows, cols| {
         (0..rows * cols).map(|_| draw.even()).collect()
     }),
-    ("survey, noise 3 %, read to 0.01", |draw, rows, cols| {
-        survey(draw, rows, cols, 0.03, true)
-    }),
-    ("survey, noise 0.5 %, read to 0.01", |draw, rows, cols| {
-        survey(draw, rows, cols, 0.005, true)
-    }),
+    NOISE_3,
+    NOISE_HALF,
     ("survey, no noise, read to 0.01", |draw, rows, cols| {
         survey(draw, rows, cols, 0.0, true)
     }),
-    ("survey, noise 0.1 %, not rounded", |draw, rows, cols| {
-        survey(draw, rows, cols, 1e-3, false)
-    }),
+    NOISE_TENTH,
     ("survey, noise 1e-6, not rounded", |draw, rows, cols| {
         survey(draw, rows, cols, 1e-6, false)
     }),
@@ -70,60 +101,182 @@ const KINDS: [(&str, Table); 10] = [
             table
         },
     ),
+    FIRST_PASS,
     (
-        "survey, noise 3 %, the first pass all 0",
+        "the same with that pass in the middle",
+        |draw, rows, cols| pass_of_zeros(draw, rows, cols, cols / 2),
+    ),
+    (
+        "the same with that pass moved to the end",
+        |draw, rows, cols| pass_of_zeros(draw, rows, cols, cols - 1),
+    ),
+    (
+        "survey, noise 3 %, the last two passes all 0",
         |draw, rows, cols| {
             let mut table = survey(draw, rows, cols, 0.03, true);
             for row in table.chunks_mut(cols) {
-                row[0] = 0.0;
+                row[cols - 2..].fill(0.0);
             }
             table
         },
+    ),
+    (
+        "survey, noise 3 %, the first station all 0",
+        |draw, rows, cols| station_of_zeros(draw, rows, cols, 0),
+    ),
+    (
+        "the same with that station moved to the end",
+        |draw, rows, cols| station_of_zeros(draw, rows, cols, rows - 1),
     ),
     ("all readings equal", |draw, rows, cols| {
         vec![(1.0 + 300.0 * draw.part()).round() / 100.0; rows * cols]
     }),
 ];
 
-const SHAPES: [(usize, usize); 7] = [
-    (4, 4),
+/// As surveys are: more stations than passes.
+const FEW_PASSES: [Shape; 7] = [
     (8, 5),
     (12, 6),
-    (16, 16),
+    (20, 5),
     (20, 10),
-    (30, 30),
-    (48, 48),
+    (30, 4),
+    (48, 3),
+    (48, 6),
+];
+const OTHERS: [Shape; 6] = [(4, 4), (16, 16), (30, 30), (48, 48), (5, 8), (10, 20)];
+const LIMITS: [(&str, usize); 4] = [
+    ("100", 100),
+    ("1,000", 1_000),
+    ("10,000", 10_000),
+    ("100,000", 100_000),
 ];
 
-fn main() {
-    let draws: u64 = std::env::args()
-        .nth(1)
-        .map_or(200, |word| word.parse().expect("a number"));
-    let heads: Vec<String> = SHAPES
+/// The drawn tables of a kind and shape.
+fn drawn(table: Table, (rows, cols): Shape, draws: usize) -> impl Iterator<Item = Vec<f64>> {
+    let mut draw = Draw((rows * 100 + cols) as u64);
+    (0..draws).map(move |_| table(&mut draw, rows, cols))
+}
+
+fn identity(size: usize) -> Vec<f64> {
+    (0..size * size)
+        .map(|at| f64::from(at % (size + 1) == 0))
+        .collect()
+}
+
+fn length(numbers: impl Iterator<Item = f64>) -> f64 {
+    numbers.map(|x| x * x).sum::<f64>().sqrt()
+}
+
+/// Whether the readings T confirm the strongest part (s, u, v) of the split: T v = s u and T' u = s v, and all that it
+/// leaves over together is smaller than s, so that no other part is stronger.
+fn confirmed(
+    readings: &[f64],
+    matrix: &[f64],
+    (us, vs): (&[f64], &[f64]),
+    (rows, cols): Shape,
+) -> bool {
+    let value = |k: usize| matrix[k * cols + k];
+    let larger = |a: &usize, b: &usize| value(*a).abs().total_cmp(&value(*b).abs());
+    let k = (0..rows.min(cols)).max_by(larger).expect("a value");
+    let s = value(k);
+    let (u, v) = (|i: usize| us[i * rows + k], |j: usize| vs[j * cols + k]);
+    let at = |i: usize, j: usize| readings[i * cols + j];
+    let by_station = |i| (0..cols).map(|j| at(i, j) * v(j)).sum::<f64>() - s * u(i);
+    let by_pass = |j| (0..rows).map(|i| at(i, j) * u(i)).sum::<f64>() - s * v(j);
+    let miss = length((0..rows).map(by_station).chain((0..cols).map(by_pass)));
+    let left = length((0..rows * cols).map(|at| readings[at] - s * u(at / cols) * v(at % cols)));
+    miss <= 1e-10 * s.abs() && left < s.abs()
+}
+
+fn print_heads(first: &str, heads: &[String]) {
+    println!("| {first} | {} |", heads.join(" | "));
+    println!("|---|{}", "---|".repeat(heads.len()));
+}
+
+/// Of each kind, how many stopped and how many of these were confirmed.
+type Sums = [(usize, usize); KINDS.len()];
+
+fn print_shapes(shapes: &[Shape], draws: usize, sums: &mut Sums) {
+    let heads: Vec<String> = shapes
         .iter()
         .map(|(rows, cols)| format!("{rows} x {cols}"))
         .collect();
-    println!("| tables | {} |", heads.join(" | "));
-    println!("|---|{}", "---|".repeat(SHAPES.len()));
-    for (name, table) in KINDS {
+    print_heads("tables", &heads);
+    for ((name, table), (stopped, well)) in KINDS.into_iter().zip(sums) {
         let mut cells = Vec::new();
-        for (rows, cols) in SHAPES {
-            let draw = &mut Draw((rows * 100 + cols) as u64);
+        for &(rows, cols) in shapes {
             let mut settled = Vec::new();
-            for _ in 0..draws {
-                let mut matrix = table(draw, rows, cols);
-                let report = run(rows, cols, &mut matrix, None, &Settings::DEFAULT);
+            for readings in drawn(table, (rows, cols), draws) {
+                let (mut matrix, mut u, mut v) = (readings.clone(), identity(rows), identity(cols));
+                let report = run(
+                    rows,
+                    cols,
+                    &mut matrix,
+                    Some((&mut u, &mut v)),
+                    &Settings::DEFAULT,
+                );
                 if report.word == Word::Settled {
                     settled.push(report.passes);
+                } else {
+                    *stopped += 1;
+                    *well += usize::from(confirmed(&readings, &matrix, (&u, &v), (rows, cols)));
                 }
             }
             settled.sort_unstable();
-            let stopped = 100.0 * (draws as f64 - settled.len() as f64) / draws as f64;
+            let share = 1.0 - settled.len() as f64 / draws as f64;
             let passes = settled
                 .get(settled.len() / 2)
-                .map_or("-".to_string(), |passes| passes.to_string());
-            cells.push(format!("{stopped:.0} % ({passes})"));
+                .map_or("-".to_string(), usize::to_string);
+            cells.push(format!("{} % ({passes})", (1000.0 * share).round() / 10.0));
         }
         println!("| {name} | {} |", cells.join(" | "));
     }
+    println!();
+}
+
+fn print_sums(drawn: usize, sums: &Sums) {
+    let heads = ["stopped", "strongest part confirmed"].map(str::to_string);
+    print_heads(&format!("tables, {drawn} of all these shapes"), &heads);
+    for ((name, _), (stopped, well)) in KINDS.iter().zip(sums) {
+        println!("| {name} | {stopped} | {well} of {stopped} |");
+    }
+    println!();
+}
+
+fn print_limits(kinds: &[(Shape, Kind)], draws: usize) {
+    print_heads("tables", &LIMITS.map(|(name, _)| format!("limit {name}")));
+    for &((rows, cols), (name, table)) in kinds {
+        let cells = LIMITS.map(|(_, limit)| {
+            let settings = Settings {
+                limit,
+                ..Settings::DEFAULT
+            };
+            let stopped = drawn(table, (rows, cols), draws)
+                .map(|mut matrix| run(rows, cols, &mut matrix, None, &settings))
+                .filter(|report| report.word == Word::Stopped)
+                .count();
+            format!("{stopped} of {draws}")
+        });
+        println!("| {rows} x {cols}, {name} | {} |", cells.join(" | "));
+    }
+}
+
+fn main() {
+    let draws = std::env::args()
+        .nth(1)
+        .map_or(200, |word| word.parse().expect("a number"));
+    let mut sums = [(0, 0); KINDS.len()];
+    print_shapes(&FEW_PASSES, draws, &mut sums);
+    print_shapes(&OTHERS, draws, &mut sums);
+    print_sums(draws * (FEW_PASSES.len() + OTHERS.len()), &sums);
+    let large = (48, 48);
+    print_limits(
+        &[
+            (large, NOISE_3),
+            (large, NOISE_HALF),
+            (large, NOISE_TENTH),
+            ((12, 6), FIRST_PASS),
+        ],
+        draws,
+    );
 }

@@ -1,11 +1,11 @@
 //! Splits a table of 4 stations and 3 passes and prints what an app would show.
-use merotunki::{Factors, Refusal, Settings, Table};
+use merotunki::{Refusal, Settings, Table};
 
 fn main() -> Result<(), Refusal> {
     let mut readings = [1.2, 1.4, 1.1, 2.4, 2.5, 2.9, 1.9, 2.6, 1.8, 0.7, 0.9, 1.3];
     let mut table = Table::new(&mut readings, 4, 3)?;
-    let mut factors = Factors::new(&table);
-    println!("{}", table.split_with(&mut factors, &Settings::default())?);
+    let (report, factors) = table.split_full(&Settings::default())?;
+    println!("{report}");
     println!("values {:.6?}", table.values().collect::<Vec<f64>>());
     println!("station 0 {:.6?}", factors.station(0).unwrap_or_default());
     Ok(())

@@ -4,12 +4,11 @@
 //! fan's drift: U goes with the stations (row 4 of U is station 4), V with the passes.
 //!
 //! ```
-//! use merotunki::{Factors, Report, Settings, Table};
+//! use merotunki::{Report, Settings, Table};
 //!
 //! let mut readings = [2.0, 0.0, 0.0, 1.0]; // 2 stations, 2 passes, station by station
 //! let mut table = Table::new(&mut readings, 2, 2)?;
-//! let mut factors = Factors::new(&table);
-//! let report = table.split_with(&mut factors, &Settings::default())?;
+//! let (report, factors) = table.split_full(&Settings::default())?;
 //! assert_eq!(report, Report::Settled { passes: 1, sweeps: 0, drops: 1 });
 //! assert_eq!(table.values().collect::<Vec<_>>(), [-2.0, 1.0]);
 //! assert_eq!(factors.station(0), Some(&[-1.0, 0.0][..]));
@@ -20,7 +19,8 @@
 //! Every check of sizes, lengths, settings and readings is the proved library's own; this crate asks
 //! it and does no arithmetic. The library has no heap, no global state and no locks, so tables may be
 //! split on several threads at once. It takes the thread's floating point to be as Rust has it: round
-//! to nearest, subnormal numbers kept.
+//! to nearest, subnormal numbers kept. Where the library that was linked lays its structs out otherwise
+//! than this crate is written for ([`raw::LAYOUT`]), making settings or a table panics and says so.
 #![deny(missing_docs, unsafe_code)]
 
 mod outcome;

@@ -46,9 +46,10 @@ pub enum Refusal {
     Large,
     /// 3: the number of readings is not stations times passes.
     Length,
-    /// 4: U is for another number of stations.
+    /// 4: U is for another number of stations. A [`Table`](crate::Table) never gives it, since it makes
+    /// U itself; it stands here as the library's number.
     Stations,
-    /// 5: V is for another number of passes.
+    /// 5: V is for another number of passes. A [`Table`](crate::Table) never gives it either.
     Passes,
     /// 6: a limit above 100,000 or a credit above 1,000.
     Count,

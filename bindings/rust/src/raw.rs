@@ -37,6 +37,10 @@ pub struct Choice {
     pub floor: f64,
 }
 
+/// The number of the layout of [`Answer`], [`Part`] and [`Choice`] that this crate is written for. The
+/// library's own is [`layout`]; it rises whenever one of them changes.
+pub const LAYOUT: u64 = 1;
+
 const _: () =
     assert!(size_of::<Answer>() == 56 && size_of::<Part>() == 16 && size_of::<Choice>() == 40);
 const _: () = assert!(size_of::<usize>() == 8, "the library is for 64-bit machines");
@@ -91,13 +95,34 @@ unsafe extern "C" {
     pub fn merotunki_square_root(x: f64) -> f64;
 
     pub fn merotunki_defaults(choice: *mut Choice) -> *mut Choice;
+
+    pub fn merotunki_layout() -> u64;
 }
 
 // The library asks for good pointers that do not overlap and checks all else itself. Rust's slices are
-// good for their lengths, and two that are borrowed at once, one of them mutably, never overlap.
+// good for their lengths, and two that are borrowed at once, one of them mutably, never overlap. What it
+// writes fits where its layout is this crate's, so whatever lends it a struct asks for that first. A
+// part, which comes back by value, is asked for only after a split.
+
+/// The number of the layout in the library that was linked: `merotunki_layout`. It is [`LAYOUT`], or the
+/// calls here panic.
+pub fn layout() -> u64 {
+    // SAFETY: nothing in, a number out.
+    unsafe { merotunki_layout() }
+}
+
+fn expect_layout() {
+    let found = layout();
+    assert!(
+        found == LAYOUT,
+        "the library that was linked lays its structs out otherwise (layout {found}, this crate is for \
+         {LAYOUT}): link the archive that came with this crate"
+    );
+}
 
 /// `merotunki_svd` on a slice.
 pub fn svd(m: &mut [f64], rows: usize, columns: usize, c: Choice) -> Answer {
+    expect_layout();
     let mut a = Answer::default();
     let (limit, credit) = (c.limit as usize, c.credit as usize);
     // SAFETY: as above.
@@ -126,6 +151,7 @@ pub fn full_svd(
     columns: usize,
     c: Choice,
 ) -> Answer {
+    expect_layout();
     let mut a = Answer::default();
     let (limit, credit) = (c.limit as usize, c.credit as usize);
     let (m, m_length, u, u_length, v, v_length) =
@@ -175,6 +201,7 @@ pub(crate) fn square_root(x: f64) -> f64 {
 }
 
 pub(crate) fn defaults() -> Choice {
+    expect_layout();
     let mut c = Choice::default();
     // SAFETY: as above.
     unsafe { merotunki_defaults(&mut c) };

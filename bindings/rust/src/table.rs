@@ -44,19 +44,29 @@ impl<'a> Table<'a> {
         outcome(raw::svd(self.entries, self.stations, self.passes, settings.choice()), self.passes)
     }
 
-    /// Splits the table and multiplies U and V from the right as they stand; table and report are those
-    /// of [`Table::split`]. Take new factors for each table. Refuses only `Reading`, and `Stations` or
-    /// `Passes` where the factors were made for a table of another size.
-    pub fn split_with(
-        &mut self,
-        factors: &mut Factors,
-        settings: &Settings,
-    ) -> Result<Report, Refusal> {
-        let lent = (&mut factors.u[..], &mut factors.v[..]);
-        outcome(
-            raw::full_svd(self.entries, lent, self.stations, self.passes, settings.choice()),
-            self.passes,
-        )
+    /// Splits the table where it stands and hands out U and V; table and report are those of
+    /// [`Table::split`]. Refuses only `Reading`, and then hands out nothing.
+    ///
+    /// The factors are new ones for each split, begun as the library's identity. To multiply on from
+    /// factors of one's own there is [`raw::full_svd`] alone.
+    ///
+    /// ```
+    /// use merotunki::{Refusal, Settings, Table};
+    ///
+    /// let mut readings = [3.0, 4.0]; // 2 stations, 1 pass
+    /// let mut table = Table::new(&mut readings, 2, 1)?;
+    /// let (_, factors) = table.split_full(&Settings::default())?;
+    /// assert_eq!(table.entries(), [-5.0, 0.0]);
+    /// let u: Vec<f64> = factors.over_stations(0).unwrap().collect();
+    /// assert!((u[0] + 0.6).abs() < 1e-15 && (u[1] + 0.8).abs() < 1e-15);
+    /// # Ok::<(), Refusal>(())
+    /// ```
+    pub fn split_full(&mut self, settings: &Settings) -> Result<(Report, Factors), Refusal> {
+        let (stations, passes) = (self.stations, self.passes);
+        let (mut u, mut v) = (identity(stations), identity(passes));
+        let lent = (&mut u[..], &mut v[..]);
+        let answer = raw::full_svd(self.entries, lent, stations, passes, settings.choice());
+        outcome(answer, passes).map(|report| (report, Factors { u, v, stations, passes }))
     }
 
     /// The values, as the method leaves them on the diagonal: in no order and of either sign.
@@ -70,8 +80,19 @@ impl<'a> Table<'a> {
     }
 }
 
-/// U (stations x stations) and V (passes x passes) for tables of one size. They start as the identity,
-/// as a split needs them; after it the readings were U x entries x (V transposed), but for rounding.
+// The library's identity of that many rows.
+fn identity(n: usize) -> Vec<f64> {
+    let mut a = vec![0.0; n * n];
+    assert_eq!(raw::identity(&mut a, n), 0, "a table's sizes are fit");
+    a
+}
+
+/// U (stations x stations) and V (passes x passes) of one split, as [`Table::split_full`] hands them
+/// out: the readings were U x entries x (V transposed), but for rounding. They cannot be made otherwise
+/// nor changed.
+///
+/// A station's row of U and a pass's row of V are [`Factors::station`] and [`Factors::pass`]. What
+/// belongs to value k are the columns k: [`Factors::over_stations`] and [`Factors::over_passes`].
 #[derive(Clone, Debug, PartialEq)]
 pub struct Factors {
     u: Vec<f64>,
@@ -81,17 +102,6 @@ pub struct Factors {
 }
 
 impl Factors {
-    /// The identities of the table's sizes.
-    pub fn new(table: &Table) -> Self {
-        let identity = |n: usize| {
-            let mut a = vec![0.0; n * n];
-            assert_eq!(raw::identity(&mut a, n), 0, "a table's sizes are fit");
-            a
-        };
-        let (stations, passes) = (table.stations, table.passes);
-        Factors { u: identity(stations), v: identity(passes), stations, passes }
-    }
-
     fn row(&self, side: usize, row: usize) -> Option<&[f64]> {
         let part = raw::row(&self.u, &self.v, self.stations, self.passes, side, row);
         let from = if side == 0 { &self.u } else { &self.v };
@@ -111,4 +121,22 @@ impl Factors {
     pub fn pass(&self, pass: usize) -> Option<&[f64]> {
         self.row(1, pass)
     }
+
+    /// Column `k` of U, one entry for each station: times value k and the mean of
+    /// [`Factors::over_passes`] it is the profile that value k holds. None where U has no such column;
+    /// U has as many as there are stations, and those past the values belong to none.
+    pub fn over_stations(&self, k: usize) -> Option<impl ExactSizeIterator<Item = f64> + Clone> {
+        column(&self.u, self.stations, k)
+    }
+
+    /// Column `k` of V, one entry for each pass: against its mean it is the drift that value k holds.
+    /// None where V has no such column.
+    pub fn over_passes(&self, k: usize) -> Option<impl ExactSizeIterator<Item = f64> + Clone> {
+        column(&self.v, self.passes, k)
+    }
+}
+
+// Column k of a square of n rows.
+fn column(a: &[f64], n: usize, k: usize) -> Option<impl ExactSizeIterator<Item = f64> + Clone> {
+    (k < n).then(|| a[k..].iter().step_by(n).copied())
 }

@@ -1,5 +1,5 @@
 //! The library's own functions as raw.rs declares them: every number in its order with nothing written,
-//! the identity's refusals, and every way that a row is not fit.
+//! the identity's refusals, every way that a row is not fit, factors of one's own, and the layout.
 
 use merotunki::raw::*;
 
@@ -127,4 +127,25 @@ fn rows_that_are_and_are_not() {
         row(25, 2401, 5, 49, 0, 1),
     ];
     assert_eq!(unfit, [(0, 0); 11]);
+}
+
+// From twice the identity come twice the factors: here they are multiplied on as they stand.
+#[test]
+fn factors_of_ones_own() {
+    let Lent { choice, entries, .. } = fit();
+    let split = |scale: f64| {
+        let square = |n: usize| (0..n * n).map(|i| scale * f64::from(i / n == i % n)).collect();
+        let (mut m, mut u, mut v): (_, Vec<f64>, Vec<f64>) =
+            (entries[0][..12].to_vec(), square(4), square(3));
+        assert_eq!(full_svd(&mut m, (&mut u, &mut v), 4, 3, choice).word, 1);
+        (m, u, v)
+    };
+    let twice = |a: &[f64]| a.iter().map(|x| 2.0 * x).collect::<Vec<f64>>();
+    let ((m, u, v), (other, more_u, more_v)) = (split(1.0), split(2.0));
+    assert_eq!((other, more_u, more_v), (m, twice(&u), twice(&v)));
+}
+
+#[test]
+fn the_layout_is_this_crates() {
+    assert_eq!((layout(), unsafe { merotunki_layout() }), (LAYOUT, LAYOUT));
 }

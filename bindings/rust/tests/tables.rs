@@ -37,8 +37,7 @@ fn known_tables() {
 
     let mut a = [2.0, 0.0, 0.0, 1.0];
     let mut table = Table::new(&mut a, 2, 2).unwrap();
-    let mut factors = Factors::new(&table);
-    let report = table.split_with(&mut factors, &plain).unwrap();
+    let (report, factors) = table.split_full(&plain).unwrap();
     assert_eq!(report, Report::Settled { passes: 1, sweeps: 0, drops: 1 });
     assert_eq!(report.to_string(), "settled, passes 1");
     assert_eq!(table.entries(), [-2.0, 0.0, 0.0, 1.0]);
@@ -72,8 +71,8 @@ fn plain_is_accumulating_is_the_original() {
         let (mut a, mut b) = (was.clone(), was.clone());
         let report = Table::new(&mut a, stations, passes).unwrap().split(&Settings::default());
         let mut table = Table::new(&mut b, stations, passes).unwrap();
-        let mut factors = Factors::new(&table);
-        assert_eq!(table.split_with(&mut factors, &Settings::default()), report);
+        let (full, factors) = table.split_full(&Settings::default()).unwrap();
+        assert_eq!(Ok(full), report);
         assert!(matches!(report, Ok(Report::Settled { passes, .. }) if passes == walked));
         let values: Vec<f64> = table.values().collect();
         assert_eq!(values.len(), stations.min(passes));
@@ -87,16 +86,87 @@ fn plain_is_accumulating_is_the_original() {
 }
 
 #[test]
-fn factors_start_as_the_identity() {
+fn every_split_has_factors_of_its_own() {
+    let was = drawn(1, 12);
+    let split = |readings: &[f64]| {
+        let mut a = readings.to_vec();
+        let mut table = Table::new(&mut a, 4, 3).unwrap();
+        let first = table.split_full(&Settings::default()).unwrap().1;
+        (first, table.split_full(&Settings::default()).unwrap().1, a)
+    };
+    let (first, second, twice) = split(&was);
+    assert_eq!(split(&was), (first.clone(), second.clone(), twice));
+    // the second is of what the first left, begun anew: not the first multiplied on
+    let mut left = was.clone();
+    Table::new(&mut left, 4, 3).unwrap().split(&Settings::default()).unwrap();
+    assert_eq!(split(&left).0, second);
+    assert_ne!(first, second);
+    // one value needs no turning: U and V are the identity that they began as
+    let mut one = [7.0];
+    let factors = Table::new(&mut one, 1, 1).unwrap().split_full(&Settings::default()).unwrap().1;
+    assert_eq!(rows(&factors, 1, 1), (vec![1.0], vec![1.0]));
+}
+
+#[test]
+fn rows_and_columns() {
     for (stations, passes) in [(1, 1), (3, 2), (2, 5), (MOST, MOST)] {
         let mut a = drawn(1, stations * passes);
-        let factors = Factors::new(&Table::new(&mut a, stations, passes).unwrap());
-        let identity = |n: usize| (0..n * n).map(|i| f64::from(i / n == i % n)).collect::<Vec<_>>();
+        let mut table = Table::new(&mut a, stations, passes).unwrap();
+        let factors = table.split_full(&Settings::default()).unwrap().1;
         let (u, v) = rows(&factors, stations, passes);
-        assert_eq!((bits(&u), bits(&v)), (bits(&identity(stations)), bits(&identity(passes))));
-        assert_eq!((factors.station(stations), factors.pass(passes)), (None, None));
-        assert_eq!((factors.station(usize::MAX), factors.pass(usize::MAX)), (None, None));
+        for k in 0..stations {
+            let column = factors.over_stations(k).unwrap();
+            assert_eq!(column.len(), stations);
+            assert!(column.enumerate().all(|(i, x)| x.to_bits() == u[i * stations + k].to_bits()));
+        }
+        for k in 0..passes {
+            let column = factors.over_passes(k).unwrap();
+            assert_eq!(column.len(), passes);
+            assert!(column.enumerate().all(|(j, x)| x.to_bits() == v[j * passes + k].to_bits()));
+        }
+        for far in [0, 1, usize::MAX - MOST] {
+            assert_eq!((factors.station(stations + far), factors.pass(passes + far)), (None, None));
+            assert!(factors.over_stations(stations + far).is_none());
+            assert!(factors.over_passes(passes + far).is_none());
+        }
     }
+}
+
+// A first pass of zeros stops; the same pass at the end does not, nor does the table without it. These
+// two say the same of the other passes: V's rows are moved as the passes were.
+#[test]
+fn a_first_pass_of_zeros() {
+    let was: Vec<f64> = drawn(9, 40).iter().map(|x| (30.0 + x).round() / 10.0).collect();
+    let with = |order: &[Option<usize>]| -> Vec<f64> {
+        was.chunks(5).flat_map(|row| order.iter().map(|j| j.map_or(0.0, |j| row[j]))).collect()
+    };
+    // report, strength, and for each station and each pass what the strongest part holds of it
+    let strongest = |order: &[Option<usize>]| {
+        let (mut a, passes) = (with(order), order.len());
+        let mut table = Table::new(&mut a, 8, passes).unwrap();
+        let (report, factors) = table.split_full(&Settings::default()).unwrap();
+        let values: Vec<f64> = table.values().collect();
+        let k = (0..passes).max_by(|&a, &b| values[a].abs().total_cmp(&values[b].abs())).unwrap();
+        let sign = factors.over_stations(k).unwrap().next().unwrap().signum();
+        let u: Vec<f64> = factors.over_stations(k).unwrap().map(|x| sign * x).collect();
+        let v: Vec<f64> = factors.over_passes(k).unwrap().map(|x| sign * x * values[k]).collect();
+        (report, values[k].abs(), u, v)
+    };
+    let all = [Some(1), Some(2), Some(3), Some(4)];
+    let first = [&[None][..], &all].concat();
+    let last = [&all[..], &[None]].concat();
+    assert!(matches!(strongest(&first).0, Report::Stopped { .. }));
+    let (moved, left_out) = (strongest(&last), strongest(&all));
+    let backwards = strongest(&[Some(4), Some(3), Some(2), Some(1)]);
+    for (report, ..) in [&moved, &left_out, &backwards] {
+        assert!(matches!(report, Report::Settled { .. }));
+    }
+    let near = |a: &[f64], b: &[f64]| a.iter().zip(b).all(|(a, b)| (a - b).abs() < 1e-12);
+    assert!(near(&[moved.1, backwards.1], &[left_out.1; 2]));
+    assert!(near(&moved.2, &left_out.2) && near(&backwards.2, &left_out.2));
+    assert!(near(&moved.3, &left_out.3) && moved.3[4].abs() < 1e-12);
+    let turned: Vec<f64> = backwards.3.iter().rev().copied().collect();
+    assert!(near(&turned, &left_out.3));
 }
 
 #[test]
@@ -153,7 +223,7 @@ fn unfit_settings() {
 }
 
 #[test]
-fn bad_readings_and_other_tables_factors() {
+fn bad_readings() {
     let was = drawn(3, 12);
     for (bad, at) in [(f64::NAN, 0), (f64::INFINITY, 7), (f64::NEG_INFINITY, 11)] {
         let mut a = was.clone();
@@ -161,22 +231,10 @@ fn bad_readings_and_other_tables_factors() {
         a[11] = bad;
         let before = bits(&a);
         let mut table = Table::new(&mut a, 4, 3).unwrap();
-        let mut factors = Factors::new(&table);
-        let fresh = factors.clone();
-        let refusal = Err(Refusal::Reading { station: at / 3, pass: at % 3 });
-        assert_eq!(table.split(&Settings::default()), refusal);
-        assert_eq!(table.split_with(&mut factors, &Settings::default()), refusal);
-        assert_eq!((bits(&a), factors), (before, fresh));
-    }
-    for (stations, passes, refusal) in
-        [(3, 3, Refusal::Stations), (4, 4, Refusal::Passes), (3, 4, Refusal::Stations)]
-    {
-        let (mut a, mut other) = (was.clone(), drawn(4, stations * passes));
-        let mut factors = Factors::new(&Table::new(&mut other, stations, passes).unwrap());
-        let fresh = factors.clone();
-        let mut table = Table::new(&mut a, 4, 3).unwrap();
-        assert_eq!(table.split_with(&mut factors, &Settings::default()), Err(refusal));
-        assert_eq!((bits(&a), factors), (bits(&was), fresh));
+        let refusal = Refusal::Reading { station: at / 3, pass: at % 3 };
+        assert_eq!(table.split(&Settings::default()), Err(refusal));
+        assert_eq!(table.split_full(&Settings::default()), Err(refusal));
+        assert_eq!(bits(&a), before);
     }
 }
 
@@ -210,8 +268,7 @@ fn two_threads_at_once() {
     let split = |seed: u64, stations: usize, passes: usize| {
         let mut a = drawn(seed, stations * passes);
         let mut table = Table::new(&mut a, stations, passes).unwrap();
-        let mut factors = Factors::new(&table);
-        let report = table.split_with(&mut factors, &Settings::default()).unwrap();
+        let (report, factors) = table.split_full(&Settings::default()).unwrap();
         (bits(&a), factors, report)
     };
     let jobs = [(6, 48, 31), (7, 29, 48)];

@@ -45,3 +45,7 @@ chosen limit credit tolerance absolute floor = record { limit = limit; credit = 
 
 abbrev pub settingsOf : Choice → Settings
 settingsOf c = chosen (c .limit) (c .credit) (c .tolerance) (c .absolute) (c .floor)
+
+-- which layout of the structs that cross the border this is: it rises by one whenever one of them changes
+abbrev pub layout : ℕ
+layout = 1

@@ -19,7 +19,7 @@ ghost use Rattle.method.specs.Fill.{filled, fillOutcome};
 ghost use Rattle.method.specs.Outcome.{fullOutcome, plainOutcome};
 ghost use Rattle.checks.specs.Values.{settingsOf as settingsBeneath};
 ghost use Rattle.svd.specs.Values.{reportOf, wordOf};
-ghost use Rattle.app.specs.Values.{numbered, answerOf, answered, told, chosen, settingsOf};
+ghost use Rattle.app.specs.Values.{numbered, answerOf, answered, told, chosen, settingsOf, layout};
 ghost use Rattle.app.specs.Row.{partOf};
 
 // What a call answers. The word is 0 in a refusal, 1 where the table settled and 2 where the walk
@@ -190,4 +190,13 @@ pub extern "C" fn merotunki_defaults() -> Choice
         absolute: settings.absolute,
         floor: settings.floor,
     }
+}
+
+// The number of the layout of the structs above. It rises whenever one of them changes, so that a
+// program can tell whether the library it was linked with is the one it was written for.
+#[no_mangle]
+pub extern "C" fn merotunki_layout() -> u64
+    ensures { λ r. ⌜ r ≡ layout ⌝ }
+{
+    1
 }

@@ -1,0 +1,108 @@
+/* merotunki_jni.c: the library's calls for src/merotunki/Native.java. ../CMakeLists.txt builds it.
+ *
+ * Arrays are copied in, and copied back where the call was accepted: the library never works on memory that a garbage
+ * collection moves, and no collection waits for a split. The lengths that the library is told are the arrays' own, so
+ * every check is the library's. Native.java hands in no null.
+ *
+ * Sizes, limit and credit come as Java's int. As size_t a negative one is a number near 2 to the 64th, which the
+ * library refuses: sizes by 2, limit and credit by 6.
+ */
+#include "merotunki.h"
+
+#include <jni.h>
+#include <stdio.h>
+#include <stdlib.h>
+
+static void throw_new(JNIEnv *env, const char *name, const char *text) {
+    jclass type = (*env)->FindClass(env, name);
+    if (type != NULL) (*env)->ThrowNew(env, type, text); /* where it is NULL, FindClass has thrown */
+}
+
+/* Room for that many entries, all 0; NULL, with an exception thrown, where there is none. */
+static double *room(JNIEnv *env, size_t entries) {
+    double *a = calloc(entries + 1, sizeof *a); /* one more, so that NULL never means 0 entries */
+    if (a == NULL) throw_new(env, "java/lang/OutOfMemoryError", "merotunki: no memory for a copy of the table");
+    return a;
+}
+
+static void hand_back(JNIEnv *env, jdoubleArray to, const double *from) {
+    if (!(*env)->ExceptionCheck(env)) (*env)->SetDoubleArrayRegion(env, to, 0, (*env)->GetArrayLength(env, to), from);
+}
+
+static void tell(JNIEnv *env, jlongArray answer, const merotunki_answer *a) {
+    const jlong told[7] = {(jlong)a->number, (jlong)a->place, (jlong)a->word, (jlong)a->passes,
+                           (jlong)a->sweeps, (jlong)a->drops, (jlong)a->range};
+    if (!(*env)->ExceptionCheck(env)) (*env)->SetLongArrayRegion(env, answer, 0, 7, told);
+}
+
+JNIEXPORT void JNICALL Java_merotunki_Native_checkLayout(JNIEnv *env, jclass self) {
+    char text[160];
+    (void)self;
+    if (merotunki_fits()) return;
+    snprintf(text, sizeof text,
+             "merotunki_jni was compiled for layout %d of the library and linked with one of layout %llu. "
+             "Build it anew from one package.",
+             MEROTUNKI_LAYOUT, (unsigned long long)merotunki_layout());
+    throw_new(env, "java/lang/UnsatisfiedLinkError", text);
+}
+
+JNIEXPORT void JNICALL Java_merotunki_Native_svd(JNIEnv *env, jclass self, jlongArray answer, jdoubleArray table,
+                                                 jint stations, jint passes, jint limit, jint credit,
+                                                 jdouble tolerance, jdouble absolute, jdouble floor) {
+    const jsize length = (*env)->GetArrayLength(env, table);
+    double *const t = room(env, (size_t)length);
+    merotunki_answer a;
+    (void)self;
+    if (t == NULL) return;
+    (*env)->GetDoubleArrayRegion(env, table, 0, length, t);
+    if (!(*env)->ExceptionCheck(env)) {
+        merotunki_svd(&a, t, (size_t)length, (size_t)stations, (size_t)passes, (size_t)limit, (size_t)credit,
+                      tolerance, absolute, floor);
+        if (a.number == 0) hand_back(env, table, t);
+        tell(env, answer, &a);
+    }
+    free(t);
+}
+
+JNIEXPORT void JNICALL Java_merotunki_Native_fullSvd(JNIEnv *env, jclass self, jlongArray answer, jdoubleArray table,
+                                                     jdoubleArray u, jdoubleArray v, jint stations, jint passes,
+                                                     jint limit, jint credit, jdouble tolerance, jdouble absolute,
+                                                     jdouble floor) {
+    const jsize length = (*env)->GetArrayLength(env, table);
+    const size_t u_length = (size_t)(*env)->GetArrayLength(env, u), v_length = (size_t)(*env)->GetArrayLength(env, v);
+    double *const t = room(env, (size_t)length + u_length + v_length);
+    merotunki_answer a;
+    (void)self;
+    if (t == NULL) return;
+    (*env)->GetDoubleArrayRegion(env, table, 0, length, t);
+    if (!(*env)->ExceptionCheck(env)) {
+        double *const tu = t + length, *const tv = tu + u_length;
+        /* what the identity refuses, the split refuses too */
+        merotunki_identity(tu, u_length, (size_t)stations);
+        merotunki_identity(tv, v_length, (size_t)passes);
+        merotunki_full_svd(&a, t, (size_t)length, tu, u_length, tv, v_length, (size_t)stations, (size_t)passes,
+                           (size_t)limit, (size_t)credit, tolerance, absolute, floor);
+        if (a.number == 0) {
+            hand_back(env, table, t);
+            hand_back(env, u, tu);
+            hand_back(env, v, tv);
+        }
+        tell(env, answer, &a);
+    }
+    free(t);
+}
+
+JNIEXPORT void JNICALL Java_merotunki_Native_defaults(JNIEnv *env, jclass self, jdoubleArray choice) {
+    merotunki_choice c;
+    (void)self;
+    merotunki_defaults(&c);
+    {
+        const double told[5] = {(double)c.limit, (double)c.credit, c.tolerance, c.absolute, c.floor};
+        (*env)->SetDoubleArrayRegion(env, choice, 0, 5, told);
+    }
+}
+
+JNIEXPORT jdouble JNICALL Java_merotunki_Native_squareRoot(JNIEnv *env, jclass self, jdouble x) {
+    (void)env, (void)self;
+    return merotunki_square_root(x);
+}

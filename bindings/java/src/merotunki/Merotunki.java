@@ -1,0 +1,69 @@
+// Merotunki.java: the proved singular value split of a survey's table, for Java and Kotlin.
+package merotunki;
+
+import java.util.Objects;
+
+/**
+ * The proved singular value split of a survey's table of readings.
+ *
+ * <p>Stations are the rows, passes are the columns. The split tells the roadway's own profile from the fan's drift: U
+ * goes with the stations (row 4 of U is station 4), V with the passes.
+ *
+ * <p>Every check of sizes, lengths, settings and readings is the proved library's own; these classes ask it and do no
+ * arithmetic on readings. They have no state, so tables may be split on several threads at once.
+ */
+public final class Merotunki {
+    /** The most stations and the most passes that a table may have. */
+    public static final int MOST = 48;
+
+    private Merotunki() {}
+
+    /**
+     * Splits a copy of the readings, which stay as they are.
+     *
+     * @param readings station by station: that of station i in pass j stands at {@code i * passes + j}
+     * @param stations 1 to 48
+     * @param passes 1 to 48
+     * @param settings {@link Settings#DEFAULT} or others
+     * @return the report and what the method leaves of the table
+     * @throws Refusal by 1, 2, 3 or 8
+     */
+    public static Split split(double[] readings, int stations, int passes, Settings settings) throws Refusal {
+        Objects.requireNonNull(readings, "readings");
+        Objects.requireNonNull(settings, "settings");
+        double[] table = readings.clone();
+        Report report = Native.split(table, stations, passes, settings);
+        return new Split(report, table, stations, passes);
+    }
+
+    /**
+     * The same split with U and V, which begin as the library's identity. Report and table are those of {@link #split}.
+     *
+     * @param readings station by station: that of station i in pass j stands at {@code i * passes + j}
+     * @param stations 1 to 48
+     * @param passes 1 to 48
+     * @param settings {@link Settings#DEFAULT} or others
+     * @return the report, what the method leaves of the table, U and V
+     * @throws Refusal by 1, 2, 3 or 8
+     */
+    public static FullSplit splitFull(double[] readings, int stations, int passes, Settings settings) throws Refusal {
+        Objects.requireNonNull(readings, "readings");
+        Objects.requireNonNull(settings, "settings");
+        double[] table = readings.clone();
+        Native.askSizes(table, stations, passes); // before U and V are made by them
+        double[] u = new double[stations * stations];
+        double[] v = new double[passes * passes];
+        Report report = Native.splitFull(table, u, v, stations, passes, settings);
+        return new FullSplit(report, table, u, v, stations, passes);
+    }
+
+    /**
+     * The double nearest to the root of x.
+     *
+     * @param x any number; -0, +0 and infinity stay
+     * @return the root; NaN for NaN and below zero
+     */
+    public static double squareRoot(double x) {
+        return Native.squareRoot(x);
+    }
+}

@@ -1,0 +1,68 @@
+// Native.java: the library's calls. No other class has native methods, and no other code calls these.
+package merotunki;
+
+/** The library's calls by way of jni/merotunki_jni.c, and what their answers mean. Arrays are never null here. */
+final class Native {
+    // The library checks sizes and length before the limit, so with a limit that it refuses, 6 says that they are fit.
+    private static final int UNFIT_LIMIT = -1;
+    private static final int SIZES_ARE_FIT = 6;
+
+    static {
+        System.loadLibrary("merotunki_jni");
+        checkLayout();
+    }
+
+    private Native() {}
+
+    /** Splits the table where it stands; refused, it is as it was. */
+    static Report split(double[] table, int stations, int passes, Settings s) throws Refusal {
+        long[] answer = new long[7];
+        svd(answer, table, stations, passes, s.limit, s.credit, s.tolerance, s.absolute, s.floor);
+        return outcome(answer, passes);
+    }
+
+    /** The same, with U and V filled from the library's identity. */
+    static Report splitFull(double[] table, double[] u, double[] v, int stations, int passes, Settings s)
+            throws Refusal {
+        long[] answer = new long[7];
+        fullSvd(answer, table, u, v, stations, passes, s.limit, s.credit, s.tolerance, s.absolute, s.floor);
+        return outcome(answer, passes);
+    }
+
+    /** Refuses by 1, 2 or 3 where the table does not fit its sizes. Writes nothing. */
+    static void askSizes(double[] table, int stations, int passes) throws Refusal {
+        long[] answer = new long[7];
+        svd(answer, table, stations, passes, UNFIT_LIMIT, 0, 0.0, 0.0, 1.0);
+        if (answer[0] != SIZES_ARE_FIT) {
+            throw new Refusal((int) answer[0], 0, 0);
+        }
+    }
+
+    // answer: number, place, word, passes, sweeps, drops, range, as merotunki.h has them
+    private static Report outcome(long[] answer, int passes) throws Refusal {
+        int number = (int) answer[0];
+        int place = (int) answer[1];
+        if (number == 8) {
+            throw new Refusal(number, place / passes, place % passes);
+        }
+        if (number != 0) {
+            throw new Refusal(number, 0, 0);
+        }
+        Report.Word word = answer[2] == 1 ? Report.Word.SETTLED : Report.Word.STOPPED;
+        return new Report(word, (int) answer[3], (int) answer[4], (int) answer[5], (int) answer[6]);
+    }
+
+    /** Throws where the library linked is another than the JNI source was compiled for. */
+    private static native void checkLayout();
+
+    private static native void svd(long[] answer, double[] table, int stations, int passes, int limit, int credit,
+            double tolerance, double absolute, double floor);
+
+    private static native void fullSvd(long[] answer, double[] table, double[] u, double[] v, int stations, int passes,
+            int limit, int credit, double tolerance, double absolute, double floor);
+
+    /** Writes limit, credit, tolerance, absolute and floor. */
+    static native void defaults(double[] choice);
+
+    static native double squareRoot(double x);
+}

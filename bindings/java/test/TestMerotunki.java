@@ -1,0 +1,233 @@
+// TestMerotunki.java: the classes on known tables, every refusal that they can give, and many calls.
+// Prints each check that fails, then `N checks passed`; status 1 where one failed. The last check wants a heap of fixed
+// size that is touched at the start, so that Java's own does not grow: -Xms64m -Xmx64m -XX:+AlwaysPreTouch
+
+import java.util.Arrays;
+import java.util.concurrent.CyclicBarrier;
+import java.util.concurrent.ExecutorService;
+import java.util.concurrent.Executors;
+import java.util.concurrent.Future;
+import merotunki.FullSplit;
+import merotunki.Merotunki;
+import merotunki.Refusal;
+import merotunki.Report;
+import merotunki.Settings;
+import merotunki.Split;
+
+class TestMerotunki extends Checks {
+    static final Settings PLAIN = Settings.DEFAULT;
+
+    static void refusedBoth(double[] readings, int stations, int passes, int number, int station, int pass, String what)
+            throws Exception {
+        double[] were = readings.clone();
+        refused(() -> Merotunki.split(readings, stations, passes, PLAIN), number, station, pass, what);
+        refused(() -> Merotunki.splitFull(readings, stations, passes, PLAIN), number, station, pass, what + ", full");
+        same(readings, were, what + " changes nothing");
+    }
+
+    static void knownTables() throws Exception {
+        double[] readings = {3.0, 4.0};
+        Split split = Merotunki.split(readings, 2, 1, PLAIN);
+        reported(split.report, "settled, passes 0", 0, 0, 1);
+        same(split.matrix(), new double[] {-5.0, 0.0}, "2 x 1");
+        same(split.values(), new double[] {-5.0}, "the value of 2 x 1");
+        check(split.stations == 2 && split.passes == 1, "the sizes of 2 x 1");
+        same(readings, new double[] {3.0, 4.0}, "the readings stay");
+
+        FullSplit full = Merotunki.splitFull(new double[] {2.0, 0.0, 0.0, 1.0}, 2, 2, PLAIN);
+        reported(full.report, "settled, passes 1", 0, 1, 1);
+        same(full.matrix(), new double[] {-2.0, 0.0, 0.0, 1.0}, "2 x 2");
+        same(full.u(), new double[] {-1.0, 0.0, 0.0, 1.0}, "U of 2 x 2");
+        same(full.v(), new double[] {1.0, 0.0, 0.0, 1.0}, "V of 2 x 2");
+
+        double[] ones = new double[9];
+        Arrays.fill(ones, 1.0);
+        reported(Merotunki.split(ones, 3, 3, PLAIN).report, "stopped, passes 100, range left 3", 100, 0, 3);
+        split = Merotunki.split(new double[4], 2, 2, PLAIN.withLimit(3));
+        reported(split.report, "stopped, passes 3, range left 2", 3, 0, 2);
+
+        double[] example = {1.2, 1.4, 1.1, 2.4, 2.5, 2.9, 1.9, 2.6, 1.8, 0.7, 0.9, 1.3};
+        double[] were = example.clone();
+        full = Merotunki.splitFull(example, 4, 3, PLAIN);
+        check(full.report.toString().equals("settled, passes 6"), "the example settles in 6 passes");
+        near(full.values(), new double[] {6.407820, -0.224449, -0.720736}, "the example's values");
+        near(full.station(0), new double[] {-0.333657, 0.321066, -0.254730, 0.848942}, "the example's station 0");
+        same(example, were, "the example's readings stay");
+        same(full.matrix(), Merotunki.split(example, 4, 3, PLAIN).matrix(), "with and without U and V");
+        rowsAndColumns(full);
+        FullSplit whole = full;
+        Class<IndexOutOfBoundsException> outside = IndexOutOfBoundsException.class;
+        thrown(outside, "There is no 4 among 0 to 3.", () -> whole.station(4), "station 4 of 4");
+        thrown(outside, "There is no -1 among 0 to 2.", () -> whole.pass(-1), "pass -1");
+        thrown(outside, "There is no 3 among 0 to 2.", () -> whole.overPasses(3), "column 3 of 3");
+        thrown(outside, "There is no 4 among 0 to 3.", () -> whole.overStations(4), "column 4 of 4");
+
+        full.matrix()[0] = full.u()[0] = full.v()[0] = full.values()[0] = 7.0;
+        check(full.matrix()[0] != 7.0 && full.u()[0] != 7.0 && full.v()[0] != 7.0, "a split cannot be changed");
+    }
+
+    static void rowsAndColumns(FullSplit s) {
+        double[] u = s.u();
+        double[] v = s.v();
+        boolean good = true;
+        for (int i = 0; i < s.stations; i++) {
+            for (int k = 0; k < s.stations; k++) {
+                good &= s.station(i)[k] == u[i * s.stations + k] && s.overStations(k)[i] == u[i * s.stations + k];
+            }
+        }
+        for (int j = 0; j < s.passes; j++) {
+            for (int k = 0; k < s.passes; k++) {
+                good &= s.pass(j)[k] == v[j * s.passes + k] && s.overPasses(k)[j] == v[j * s.passes + k];
+            }
+        }
+        check(good, "rows and columns of U and V");
+    }
+
+    // sizes, passes of the walk, and a sum over the bits of table, U and V as the original method gives them
+    static final long[][] ANSWERS = {
+        {1, 1, 0, 0x3159F754ACA15057L}, {1, 7, 0, 0x014C4C0133E42B9DL}, {7, 1, 0, 0x881D90FA72676BACL},
+        {2, 2, 2, 0xA0D61E8BEA8827CCL}, {3, 5, 5, 0xD8E8EA386B72070BL}, {5, 3, 8, 0x959C80C81842B9B5L},
+        {8, 8, 21, 0x010B05660EF4375EL}, {16, 48, 46, 0xF251AC3E5A1E9DE9L}, {48, 17, 52, 0x3AC4289425D94029L},
+        {48, 48, 128, 0xE5CEE60EB3644596L}};
+
+    static void toTheBit() throws Exception {
+        for (int i = 0; i < ANSWERS.length; i++) {
+            int stations = (int) ANSWERS[i][0];
+            int passes = (int) ANSWERS[i][1];
+            FullSplit s = Merotunki.splitFull(drawn(i, stations * passes), stations, passes, PLAIN);
+            long sum = 0xCBF29CE484222325L;
+            for (double[] part : new double[][] {s.matrix(), s.u(), s.v()}) {
+                for (double x : part) {
+                    sum = (sum ^ Double.doubleToRawLongBits(x)) * 0x100000001B3L;
+                }
+            }
+            check(s.report.passes == ANSWERS[i][2] && sum == ANSWERS[i][3], "each bit of " + stations + " x " + passes);
+        }
+    }
+
+    static void refusals() throws Exception {
+        double[] twelve = drawn(1, 12);
+        refusedBoth(new double[0], 0, 3, 1, 0, 0, "no stations");
+        refusedBoth(twelve, 4, 0, 1, 0, 0, "no passes");
+        refusedBoth(twelve, 0, 49, 1, 0, 0, "no stations and 49 passes");
+        refusedBoth(drawn(2, 147), 49, 3, 2, 0, 0, "49 stations");
+        refusedBoth(drawn(2, 147), 3, 49, 2, 0, 0, "49 passes");
+        refusedBoth(twelve, -4, 3, 2, 0, 0, "-4 stations");
+        refusedBoth(twelve, 4, -3, 2, 0, 0, "-3 passes");
+        refusedBoth(twelve, -4, -3, 2, 0, 0, "-4 stations and -3 passes");
+        refusedBoth(twelve, Integer.MIN_VALUE, Integer.MAX_VALUE, 2, 0, 0, "the smallest and the largest int");
+        refusedBoth(twelve, 46341, 46341, 2, 0, 0, "sizes whose square is no int");
+        refusedBoth(drawn(3, 11), 4, 3, 3, 0, 0, "11 readings for 4 x 3");
+        refusedBoth(drawn(3, 13), 4, 3, 3, 0, 0, "13 readings for 4 x 3");
+        refusedBoth(new double[0], 4, 3, 3, 0, 0, "no readings for 4 x 3");
+        for (double bad : new double[] {Double.NaN, Double.POSITIVE_INFINITY, Double.NEGATIVE_INFINITY}) {
+            double[] odd = twelve.clone();
+            odd[5] = bad;
+            odd[11] = Double.NaN;
+            refusedBoth(odd, 4, 3, 8, 1, 2, bad + " at station 1, pass 2");
+            refusedBoth(odd, 2, 6, 8, 0, 5, bad + " at station 0, pass 5");
+        }
+        try {
+            Merotunki.split(new double[] {1.5, 2.0, Double.NaN, 1.0}, 2, 2, PLAIN);
+            check(false, "NaN is refused");
+        } catch (Refusal r) {
+            check(r.getMessage().equals("The reading of station 1 in pass 0 is not a usable number."), "the text of 8");
+        }
+        thrown(NullPointerException.class, "readings", () -> Merotunki.split(null, 4, 3, PLAIN), "no array");
+        thrown(NullPointerException.class, "readings", () -> Merotunki.splitFull(null, 4, 3, PLAIN), "no array, full");
+        thrown(NullPointerException.class, "settings", () -> Merotunki.split(twelve, 4, 3, null), "no settings");
+        thrown(NullPointerException.class, "settings", () -> Merotunki.splitFull(twelve, 4, 3, null), "none, full");
+    }
+
+    static void settings() throws Exception {
+        check(PLAIN.limit == 100 && PLAIN.credit == 50 && PLAIN.tolerance == 1e-10 && PLAIN.absolute == 1e-12
+                && PLAIN.floor == 1e-21, "the defaults");
+        for (int bad : new int[] {100001, -1, Integer.MAX_VALUE, Integer.MIN_VALUE}) {
+            refused(() -> PLAIN.withLimit(bad), 6, 0, 0, "limit " + bad);
+        }
+        for (int bad : new int[] {1001, -1, Integer.MAX_VALUE, Integer.MIN_VALUE}) {
+            refused(() -> PLAIN.withCredit(bad), 6, 0, 0, "credit " + bad);
+        }
+        for (double bad : new double[] {-Double.MIN_VALUE, -1.0, 1 / 0.0, -1 / 0.0, Double.NaN}) {
+            refused(() -> PLAIN.withTolerance(bad), 7, 0, 0, "tolerance " + bad);
+            refused(() -> PLAIN.withAbsolute(bad), 7, 0, 0, "absolute " + bad);
+            refused(() -> PLAIN.withFloor(bad), 7, 0, 0, "floor " + bad);
+        }
+        refused(() -> PLAIN.withFloor(0.0), 7, 0, 0, "floor 0");
+        refused(() -> PLAIN.withFloor(-0.0), 7, 0, 0, "floor -0");
+        Settings s = PLAIN.withLimit(100000).withCredit(1000).withTolerance(-0.0).withAbsolute(Double.MAX_VALUE)
+                .withFloor(Double.MIN_VALUE);
+        check(s.limit == 100000 && s.credit == 1000 && s.tolerance == 0.0 && s.absolute == Double.MAX_VALUE
+                && s.floor == Double.MIN_VALUE, "the bounds are allowed");
+    }
+
+    static void roots() {
+        check(Double.doubleToRawLongBits(Merotunki.squareRoot(2.0)) == 0x3FF6A09E667F3BCDL, "the root of 2");
+        check(Double.isNaN(Merotunki.squareRoot(-1.0)), "the root of -1");
+        check(Double.isNaN(Merotunki.squareRoot(Double.NaN)), "the root of NaN");
+        same(new double[] {Merotunki.squareRoot(-0.0)}, new double[] {-0.0}, "the root of -0");
+        boolean good = true;
+        for (double x : drawn(5, 1000)) {
+            good &= Merotunki.squareRoot(Math.abs(x)) == Math.sqrt(Math.abs(x));
+        }
+        check(good, "1000 roots are the machine's");
+    }
+
+    static void twoThreads() throws Exception {
+        ExecutorService threads = Executors.newFixedThreadPool(2);
+        CyclicBarrier line = new CyclicBarrier(2);
+        Future<?>[] jobs = new Future<?>[2];
+        for (int n = 0; n < 2; n++) {
+            int stations = n == 0 ? 48 : 29;
+            double[] readings = drawn(6 + n, stations * 31);
+            double[] wanted = Merotunki.splitFull(readings, stations, 31, PLAIN).u();
+            jobs[n] = threads.submit(() -> {
+                line.await();
+                boolean good = true;
+                for (int i = 0; i < 40; i++) {
+                    good &= Arrays.equals(Merotunki.splitFull(readings, stations, 31, PLAIN).u(), wanted);
+                }
+                return good;
+            });
+        }
+        check((boolean) jobs[0].get() && (boolean) jobs[1].get(), "two threads at once");
+        threads.shutdown();
+    }
+
+    // A call that kept its copies, 37 doubles, would hold 28 MB more after 100,000.
+    static void manyCalls() throws Exception {
+        double[] readings = drawn(8, 12);
+        double[] odd = readings.clone();
+        odd[7] = Double.NaN;
+        long before = 0;
+        boolean good = true;
+        for (int i = -20000; i < 100000; i++) {
+            if (i == 0) {
+                before = held();
+            }
+            good &= Merotunki.splitFull(readings, 4, 3, PLAIN).report.word == Report.Word.SETTLED;
+            if (i % 10 == 0) {
+                try {
+                    Merotunki.splitFull(odd, 4, 3, PLAIN);
+                    good = false;
+                } catch (Refusal refusal) {
+                    good &= refusal.number == 8;
+                }
+            }
+        }
+        long more = held() - before;
+        check(good, "100,000 splits");
+        check(more < 12000, "100,000 splits hold no more memory, but " + more + " KB");
+    }
+
+    public static void main(String[] words) throws Exception {
+        knownTables();
+        toTheBit();
+        refusals();
+        settings();
+        roots();
+        twoThreads();
+        manyCalls();
+        end();
+    }
+}

@@ -1,0 +1,15 @@
+# merotunki-config-version.cmake: tells find_package(merotunki VERSION) whether this version will do. While the first
+# number is 0, the second must agree; from 1 on, the first. And it may not be older than the version asked for.
+set(PACKAGE_VERSION "@VERSION@")
+string(REGEX MATCH "^(0\\.[0-9]+|[0-9]+)" _merotunki_has "${PACKAGE_VERSION}")
+string(REGEX MATCH "^(0\\.[0-9]+|[0-9]+)" _merotunki_asked "${PACKAGE_FIND_VERSION}")
+set(PACKAGE_VERSION_COMPATIBLE FALSE)
+set(PACKAGE_VERSION_EXACT FALSE)
+if(_merotunki_has STREQUAL _merotunki_asked AND NOT PACKAGE_VERSION VERSION_LESS PACKAGE_FIND_VERSION)
+    set(PACKAGE_VERSION_COMPATIBLE TRUE)
+endif()
+if(PACKAGE_VERSION VERSION_EQUAL PACKAGE_FIND_VERSION)
+    set(PACKAGE_VERSION_EXACT TRUE)
+endif()
+unset(_merotunki_has)
+unset(_merotunki_asked)

@@ -1,0 +1,21 @@
+// split.swift: splits a table of 4 stations and 3 passes and prints what an app would show.
+import Foundation
+import Merotunki
+
+precondition(merotunki_fits() == 1, "the library linked is not the header's")
+var table = [1.2, 1.4, 1.1, 2.4, 2.5, 2.9, 1.9, 2.6, 1.8, 0.7, 0.9, 1.3]
+var u = [Double](repeating: 0, count: 16)
+var v = [Double](repeating: 0, count: 9)
+var c = merotunki_choice()
+var a = merotunki_answer()
+merotunki_defaults(&c)
+merotunki_identity(&u, 16, 4)
+merotunki_identity(&v, 9, 3)
+merotunki_full_svd(&a, &table, 12, &u, 16, &v, 9, 4, 3, Int(c.limit), Int(c.credit), c.tolerance, c.absolute, c.floor)
+if a.number != 0 {
+    print("refused by \(a.number) at \(a.place)")
+    exit(1)
+}
+print(a.word == UInt64(MEROTUNKI_SETTLED) ? "settled, passes \(a.passes)" : "stopped, passes \(a.passes)")
+print(String(format: "values [%f, %f, %f]", table[0], table[4], table[8]))
+print(String(format: "station 0 [%f, %f, %f, %f]", u[0], u[1], u[2], u[3]))

@@ -1,0 +1,187 @@
+"""What the split says of a survey, in numbers and in sentences: word, strengths, profile, drift, what is left over, leak."""
+import math
+
+from drawing import number
+from library import split
+from tables import Fault
+
+
+def count(many, thing):
+    return f"{many} {thing}" + ("" if many == 1 else "es" if thing.endswith("s") else "s")
+
+
+def mean(numbers):
+    return math.fsum(numbers) / len(numbers)
+
+
+def root_mean_square(numbers):
+    return math.sqrt(mean([x * x for x in numbers]))
+
+
+def rough(x):
+    """A number of which only the size matters."""
+    return f"{x:.0f}" if x >= 10 else f"{x:.2g}"
+
+
+class Finding:
+    """What the split says of a table. Where `reason` is empty the strongest part s1 u1 v1' is to be shown: `profile` is
+    s1 u1 times the mean of v1 in m/s, `drift` is v1 against its mean in percent, `rest` is what it leaves of the readings."""
+
+    def __init__(self, table):
+        self.table, self.rows, self.names = table, table.rows, table.names()
+        self.m, self.n = len(self.rows), len(self.rows[0])
+        self.answer, matrix, u, v = split(self.rows)
+        self.values, self.reason, self.quantity, self.leak = [], "", None, None
+        if self.answer.number not in (0, 8):
+            raise Fault(f"the library refused the call with number {self.answer.number}")
+        if self.answer.number == 0:
+            # each value with its place on the diagonal, greatest magnitude first
+            self.values = sorted(((matrix[k][k], k) for k in range(min(self.m, self.n))), key=lambda x: -abs(x[0]))
+            s, k = self.values[0]
+            self.take(s, [row[k] for row in u], [row[k] for row in v])
+
+    def take(self, s, u1, v1):
+        """The strongest part, or the reason why it is not shown."""
+        huge = max(abs(x) for row in self.rows for x in row) > 1e9
+        if huge or not all(map(math.isfinite, [s, *u1, *v1])):
+            why = "A reading above 1e9 m/s is no air speed" if huge else "What the method reached is no number"
+            self.reason = f"{why}, so neither profile nor drift is shown."
+            return
+        middle = mean(v1)
+        # The sign needs no choosing: s u1 mean(v1) is the same for each way to share signs between the three, and
+        # where the readings are positive on the whole so is this.
+        self.profile = [s * x * middle for x in u1]
+        self.rest = [[x - s * a * b for x, b in zip(row, v1)] for row, a in zip(self.rows, u1)]
+        self.reason = self.doubt(s, u1, v1)
+        if not self.reason and abs(middle) * 10 < max(map(abs, v1)):
+            self.reason = "The passes cancel each other out, so there is no mean pass to scale a profile by."
+        if not self.reason:
+            self.drift = [100 * (x / middle - 1) for x in v1]
+            if self.table.area:
+                self.quantity = [speed * area for speed, area in zip(self.profile, self.table.area)]
+                self.leak = Leak(self) if self.m > 1 else None
+
+    def doubt(self, s, u1, v1):
+        # A run that stopped can have found its strongest part all the same: large tables stop over their smallest
+        # values. Or its greatest entry is nothing at all: a first pass of zeros leaves one that is off by much. The
+        # word does not tell which, but the table does. (s, u1, v1) is a part of it when T v1 = s u1 and T' u1 = s v1,
+        # and then no other part is stronger if all that is left over together is smaller than s. After a stop it is
+        # shown only when both hold. After settling the first is asked as well, as a check; the diagonal has the order.
+        # Readings are measured by the greatest of them, so that the squares of tiny ones do not vanish.
+        stopped, unit = self.answer.word == 2, max(abs(x) for row in self.rows for x in row)
+        if s == 0:
+            return f"Every {'number it had reached' if unit else 'reading'} is zero, so there is no profile to show."
+        rows, size = [[x / unit for x in row] for row in self.rows], s / unit
+        off = [math.fsum(x * b for x, b in zip(row, v1)) - size * a for row, a in zip(rows, u1)]
+        off += [math.fsum(x * a for x, a in zip(column, u1)) - size * b for column, b in zip(zip(*rows), v1)]
+        miss = math.hypot(*off)
+        first, name = ([row[0] for row in rows], "pass") if self.n <= self.m else (rows[0], "station")
+        zeros = stopped and not any(first)
+        advice = f" The first {name} reads zero throughout: leave it out and split again." if zeros else ""
+        if not miss <= 1e-10 * abs(size):
+            by = f"{rough(100 * miss / abs(size))} %" if miss < 10 * abs(size) else "more than 1000 %"
+            return (f"The greatest number it had reached, {number(abs(s), 3)}, does not fit the readings: it misses by {by}. "
+                    f"So neither profile nor drift is shown.{advice}")
+        if stopped and not math.hypot(*(x / unit for row in self.rest for x in row)) < abs(size):
+            return f"What the strongest part leaves over may hold a stronger one, so no profile is shown.{advice}"
+        return ""
+
+    def verdict(self):
+        """The word in a surveyor's words. `Passes` are his walks, so what the method makes is told as turns."""
+        if self.answer.number:
+            i, j = divmod(self.answer.place, self.n)
+            bad = sum(not math.isfinite(x) for row in self.rows for x in row)
+            return (f"Refused, number 8: the reading of station {self.names[i]} on pass {j} is no finite number "
+                    f"(place {self.answer.place}{f', the first of {bad}' if bad > 1 else ''}).")
+        if self.answer.word == 1:
+            return "Settled: the split is final."
+        return f"Stopped: the method ran out of turns before it was done ({count(self.answer.passes, 'turn')})."
+
+    def remedy(self):
+        """What to do about a refusal."""
+        i, j = divmod(self.answer.place, self.n)
+        return f"Nothing was split. Read station {self.names[i]} on pass {j} again, or leave the station or the pass out."
+
+    def confirmed(self):
+        """Why a run that stopped is shown."""
+        return ("The strongest part is shown all the same, because the readings T confirm it: T v1 = s1 u1 and "
+                "T\u2032 u1 = s1 v1, and all that is left over together is weaker.")
+
+    def shares(self):
+        """The first ten strengths with their shares of the readings' sum of squares, in percent; no share where that
+        sum is no number above zero."""
+        whole = math.hypot(*(x for row in self.rows for x in row))
+        parts = [(abs(s), 100 * (s / whole) ** 2 if 0 < whole < math.inf else None) for s, _ in self.values[:10]]
+        return [(number(s, 3), "" if p is None else f"{p:.2f} %" if p >= 0.005 or p == 0 else "< 0.01 %") for s, p in parts]
+
+    def strengths(self):
+        """A sentence with the strengths. Of a run that stopped they are not known."""
+        more = f" and {len(self.values) - 10} smaller" if len(self.values) > 10 else ""
+        if self.answer.word == 1:
+            listed = ", ".join(f"{s} ({share})" if share else s for s, share in self.shares())
+            return f"Strengths, greatest first, each with its share of the readings\u2019 sum of squares: {listed}{more}."
+        which = "not to be read as strengths" if self.reason else "only the first is known to be a strength"
+        return f"The numbers it had reached, greatest first, {which}: " + ", ".join(s for s, _ in self.shares()) + f"{more}."
+
+    def left_over(self):
+        """The largest that the strongest part leaves, where it is, and the root mean square."""
+        most, i, j = max((abs(x), -i, -j) for i, row in enumerate(self.rest) for j, x in enumerate(row))
+        whole = root_mean_square([x for row in self.rest for x in row])
+        where = f" (station {self.names[-i]}, pass {-j})" if most >= 0.005 else ""
+        return f"Left over: {number(most, 2)} m/s at most{where}, {number(whole, 3)} m/s root mean square."
+
+    def rows_note(self):
+        """Which row is which station and pass."""
+        moved = next((i for i, name in enumerate(self.names) if name != str(i)), None)
+        if moved is None:
+            return "Stations and passes count from 0: station i is row i of the table and of U, pass j is row j of V."
+        return (f"Stations and passes count from 0: pass j is row j of V. From row {moved} on, row and station differ "
+                f"(row {moved} of U is station {self.names[moved]}).")
+
+
+class Leak:
+    """Where the air is lost. Quantity is air speed times cross-section; the speed alone falls in every wide place. The
+    stations are divided where the mean quantity falls most from the ones before to the ones behind. The fall is marked
+    where it is more than TIMES times what the readings stray from just these two quantities with the fan's drift (root
+    mean square, and at least a step of the instrument), and from as many as READINGS readings on: fewer do not tell a
+    leak from a misread dial."""
+    TIMES, READINGS = 5, 8
+
+    def __init__(self, found):
+        quantity, area, self.names = found.quantity, found.table.area, found.names
+        self.after = max(range(1, found.m), key=lambda k: mean(quantity[:k]) - mean(quantity[k:]))
+        self.means = mean(quantity[:self.after]), mean(quantity[self.after:])
+        self.fall = self.means[0] - self.means[1]
+        level = [self.means[i >= self.after] for i in range(found.m)]
+        stray = [x * a - q * (1 + d / 100) for row, a, q in zip(found.rows, area, level) for x, d in zip(row, found.drift)]
+        self.times = self.fall / max(root_mean_square(stray), found.table.step() * mean(area))
+        self.enough = len(stray) >= self.READINGS
+        self.marked = self.enough and self.means[0] > 0 and self.times > self.TIMES
+
+    def where(self):
+        return f"between stations {self.names[self.after - 1]} and {self.names[self.after]}"
+
+    def words(self):
+        """What is lost, and its share of the quantity before; none where the air comes from both sides."""
+        share = f" ({rough(100 * self.fall / self.means[0])} %)" if self.means[1] >= 0 else ""
+        return f"{number(self.fall, 1)} m3/s{share} lost {self.where()}"
+
+    def sides(self):
+        """The two mean quantities, each with its stations."""
+        def at(names): return f"station {names[0]}" if len(names) == 1 else f"stations {names[0]} to {names[-1]}"
+        return [f"{number(q, 1)} m3/s ({at(names)})"
+                for q, names in zip(self.means, (self.names[:self.after], self.names[self.after:]))]
+
+    def sentence(self):
+        if not self.enough:
+            return f"No leak is marked: fewer than {self.READINGS} readings do not tell one from a misread dial."
+        if min(self.fall, self.means[0]) <= 0:
+            return "No leak is marked: the mean quantity (profile times area) falls nowhere from above zero."
+        before, behind = self.sides()
+        stray = "times what the readings stray from these two quantities (root mean square)"
+        if not self.marked:
+            return (f"No leak is marked. The mean quantity (profile times area) falls most {self.where()}, from {before} to "
+                    f"{behind}, but only by {rough(self.times)} {stray}; a leak is marked above {self.TIMES} times.")
+        return (f"Leak: {self.words()}. The mean quantity (profile times area) falls from {before} to {behind}, more than "
+                f"for any other place to divide the stations. That is {rough(self.times)} {stray}; a leak is marked above "
+                f"{self.TIMES} times.")
