@@ -21,7 +21,8 @@ columnReflection f floor rows stride i j a = reflectionOf f floor 0 (rows - i) (
 abbrev pub headed : Reflection → ℕ → ℕ → ℕ → ℕ → List Float → List Float
 headed r rows stride i j a = set (lineCleared (i * stride + j) stride (rows - i) a) (i * stride + j) (getD (r .entries) 0 nan)
 
--- the table with column j cleared below row i, below the floor too; where tau is not 0, the columns right of it take the reflection
+-- the table with column j cleared under row i, also where its entries do not reach the floor; where tau is not 0, the columns right of it take the
+-- reflection
 unfoldable pub columnMatrix : Format → Float → ℕ → ℕ → ℕ → ℕ → ℕ → List Float → List Float
 columnMatrix f floor rows cols stride i j a =
     let r = columnReflection f floor rows stride i j a in

@@ -1,5 +1,6 @@
 -- The walk's two questions on the table (document 000 and its twins in 002): whether the last coupling of the live corner is negligible, and what one
--- sweep of rotations makes of table and factors. The upper and the lower form differ in which lines come first, and in nothing else. Definitions, and step laws for the code. Assumes nothing.
+-- sweep of rotations makes of table and factors. The upper and the lower form differ in which lines come first, and in nothing else. Definitions, and
+-- step laws for the code. Assumes nothing.
 use mathlib.Core.Path.{_≡_, ap, _∙_}
 use mathlib.Core.Bool.{Bool, true, false, not}
 use mathlib.Core.List.{List}
@@ -36,7 +37,7 @@ turned f z g false i j n w =
       v = columnsTurned f g (z .cols) i 0 (z .vrows) (w .v);
     }
 
--- zero pushed into entry j of line i + 1, out of entry j of line i
+-- entry j of line i + 1 turned into entry j of line i, so that 0 is left of it: rows where `byRow`, else columns
 abbrev pub pushed : Format → Shape → Bool → ℕ → ℕ → ℕ → Work → Work
 pushed f z byRow i j n w =
     turned f z (rotationOf f (along byRow (z .stride) i j (w .matrix)) (along byRow (z .stride) (i + 1) j (w .matrix))) byRow i j n w
@@ -68,12 +69,14 @@ negligible f tolerance absolute stride upper k a =
 
 -- ---- a sweep
 
--- the rotation that a sweep starts with, of (first * first - shift, first * its neighbour across)
+-- the rotation that a sweep starts with, of (first * first - shift, first * next): `first` is entry (0, 0), and `next` stands right of it in the upper
+-- form and below it in the lower
 abbrev pub firstRotation : Format → ℕ → Bool → ℕ → List Float → Rotation
 firstRotation f stride upper k a =
     rotationOf f (sub f (mul f (at stride 0 0 a) (at stride 0 0 a)) (shiftAt f stride k a)) (mul f (at stride 0 0 a) (along (not upper) stride 1 0 a))
 
--- one step down the diagonal
+-- One step down the diagonal: in the upper form rows and then columns are turned, in the lower columns and then rows. So `upper` says at once whether
+-- the first are rows.
 abbrev pub stepped : Format → Shape → Bool → ℕ → Work → Work
 stepped f z upper k w = pushed f z (not upper) (k + 1) k 3 (pushed f z upper k k 3 w)
 
@@ -81,7 +84,8 @@ stepped f z upper k w = pushed f z (not upper) (k + 1) k 3 (pushed f z upper k k
 unfoldable pub steps : Format → Shape → Bool → ℕ → Work → Work
 steps f z upper n w = turns 0 n (stepped f z upper) w
 
--- The sweep over the live corner whose last 2 x 2 starts at (k, k): columns first in the upper form, rows first in the lower.
+-- The sweep over the live corner whose last 2 x 2 starts at (k, k). Its first turn is of columns in the upper form and of rows in the lower, its last
+-- the other way round.
 unfoldable pub swept : Format → Shape → Bool → ℕ → Work → Work
 swept f z upper k w = pushed f z upper k k 2 (steps f z upper k (turned f z (firstRotation f (z .stride) upper k (w .matrix)) (not upper) 0 0 2 w))
 

@@ -49,17 +49,17 @@ scaled f v at x n = turns 0 n (λ k w. set w k (mul f (getD v (at + k) nan) x)) 
 unfoldable pub squaresOf : Format → List Float → ℕ → Float
 squaresOf f w n = turns 0 n (λ k s. add f s (mul f (getD w k nan) (getD w k nan))) plusZero
 
--- what making a reflection leaves in the entries, its vector (whose head is 1) and its tau
+-- `entries` is the whole list that the reflected run stands in, as making the reflection leaves it; `vector` has head 1
 pub record Reflection : Type 0 where
   pub entries : List Float
   pub vector : List Float
   pub tau : Float
 
--- the length of the scaled entries w, with the sign of their head
+-- the root of the sum of the squares of the scaled entries w, with the sign of the first of them
 abbrev pub signedLength : Format → List Float → ℕ → Float
 signedLength f w n = mul f (signOf (getD w 0 nan)) (squareRoot f (squaresOf f w n))
 
--- from the largest magnitude, the scaled entries and their signed length g: the head becomes -g * largest and the tail +0
+-- from the largest magnitude, the scaled entries w and their signed length g: the head becomes -g * largest and the tail +0
 abbrev pub reflectionBy : Format → List Float → ℕ → ℕ → Float → List Float → Float → Reflection
 reflectionBy f v at n largest w g =
     record {

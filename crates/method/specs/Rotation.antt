@@ -47,11 +47,11 @@ pairTurned f g p q a =
     set (set a p (add f (mul f (g .cosine) (getD a p nan)) (mul f (g .sine) (getD a q nan)))) q
     (add f (mul f (neg (g .sine)) (getD a p nan)) (mul f (g .cosine) (getD a q nan)))
 
--- rows i and i + 1 turned, in the n columns from j on
+-- rows i and i + 1 turned, in the n columns from j on: i counts lines, j the entries along a line
 unfoldable pub rowsTurned : Format → Rotation → ℕ → ℕ → ℕ → ℕ → List Float → List Float
 rowsTurned f g stride i j n a = turns 0 n (λ k. pairTurned f g (i * stride + (j + k)) ((i + 1) * stride + (j + k))) a
 
--- columns i and i + 1 turned, in the n rows from j on
+-- columns i and i + 1 turned, in the n rows from j on: again i counts lines, so the entries are (j + k, i), row first
 unfoldable pub columnsTurned : Format → Rotation → ℕ → ℕ → ℕ → ℕ → List Float → List Float
 columnsTurned f g stride i j n a = turns 0 n (λ k. pairTurned f g ((j + k) * stride + i) ((j + k) * stride + (i + 1))) a
 
