@@ -37,7 +37,7 @@ turned f z g false i j n w =
       v = columnsTurned f g (z .cols) i 0 (z .vrows) (w .v);
     }
 
--- entry j of line i + 1 turned into entry j of line i, so that 0 is left of it: rows where `byRow`, else columns
+-- entry j of line i + 1 becomes 0, its value turned into entry j of line i; the lines are rows where `byRow`, else columns
 abbrev pub pushed : Format → Shape → Bool → ℕ → ℕ → ℕ → Work → Work
 pushed f z byRow i j n w =
     turned f z (rotationOf f (along byRow (z .stride) i j (w .matrix)) (along byRow (z .stride) (i + 1) j (w .matrix))) byRow i j n w
