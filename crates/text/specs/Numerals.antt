@@ -91,7 +91,11 @@ numeral-some base l v h e =
     let q = when-some (ltb (p .0) (2 ^ 64)) (p .0) v (p .2) in
     p .1 ∙ ap some (q .1)
 
--- where it says none, a value there is none of or it is too large
+-- and k digits say less than the power k of the base
+pub numeral-below : (base : ℕ) (l : Bytes) (v : ℕ) → base ≤ 16 → numeral base l ≡ some v → v < base ^ length l
+numeral-below base l v h e = omega (arith, value-below base l 0 v (numeral-some base l v h e))
+
+-- where it says none, there is no value or it is too large
 pub numeral-none : (base : ℕ) (l : Bytes) (w : ℕ) → base ≤ 16 → numeral base l ≡ none → value base 0 l ≡ some w → 2 ^ 64 ≤ w
 unfolding _>>=_ when
 numeral-none base l w h e f = go (ltb w (2 ^ 64)) refl
