@@ -4,3 +4,4 @@ mod Level
 mod Joined
 mod Signs
 mod Cases
+mod Patterns

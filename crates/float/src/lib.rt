@@ -1,8 +1,9 @@
 // The five helpers on f64 that the method's rules use: magnitude, sign, the smaller, the larger and
-// the square root. Each is the definition of its name in method, for every argument.
+// the square root. Each is the definition of its name in method, for every argument. And a float from
+// and to its bit pattern, all NaNs alike.
 ghost use mathlib.Core.Path.{_≡_};
 ghost use Prim.Native.Nat.{_+_, _*_, _^_, _<_, _≤_};
-ghost use lib.Ieee.{binary64, ofBits};
+ghost use lib.Ieee.{binary64, ofBits, toBits};
 ghost use Rattle.method.specs.Floats.{magnitude, signOf, smaller, larger};
 ghost use Rattle.method.specs.Root.{squareRoot, rooted, count, square};
 
@@ -132,4 +133,25 @@ pub fn square_root(x: f64) -> f64
         return x;
     }
     f64::from_bits(root_bits(bits))
+}
+
+// The float of a bit pattern. Every pattern above an infinity's, its sign left out, is the NaN.
+pub fn from_bits(p: u64) -> f64
+    ensures { λ r. ⌜ r ≡ ofBits binary64 p ⌝ }
+{
+    if p % 0x8000_0000_0000_0000 <= 0x7ff0_0000_0000_0000 {
+        f64::from_bits(p)
+    } else {
+        0.0 / 0.0
+    }
+}
+
+// The bit pattern of a float. The NaN's is 7FF8000000000000.
+pub fn to_bits(x: f64) -> u64
+    ensures { λ r. ⌜ r ≡ toBits binary64 x ⌝ }
+{
+    if x != x {
+        return 0x7ff8_0000_0000_0000;
+    }
+    f64::to_bits(x)
 }

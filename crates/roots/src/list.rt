@@ -2,14 +2,8 @@
 ghost use mathlib.Core.Path.{_≡_};
 ghost use Prim.Native.Nat.{_+_, _≤_};
 ghost use lib.ListN.{length};
-use crate::bits::pattern;
-use crate::bits::value;
-
-// What 16 digits say, where they are digits.
-struct Read {
-    is: bool,
-    bits: u64,
-}
+use text::numerals::Number;
+use text::numerals::pattern;
 
 // Room for the list and more: one that filled it would end within a line.
 pub(crate) fn blank() -> [u8; 100000]
@@ -18,52 +12,23 @@ pub(crate) fn blank() -> [u8; 100000]
     [0; 100000]
 }
 
-// What a byte is worth as a digit; 16 where it is none.
-fn worth(b: u8) -> u64
-    ensures { λ r. ⌜ r ≤ 16 ⌝ }
-{
-    if b < 48 {
-        return 16;
-    }
-    if b < 58 {
-        return (b - 48) as u64;
-    }
-    if b < 65 {
-        return 16;
-    }
-    if b < 71 {
-        return (b - 55) as u64;
-    }
-    16
-}
-
-// The 16 digits from `at` on.
-fn word(text: &[u8], at: usize) -> Read
-    requires { ⌜ at + 16 ≤ length (now text) ⌝ }
-{
-    let mut bits: u64 = 0;
-    let mut i = 0;
-    while i < 16 {
-        let d = worth(text[at + i]);
-        if d == 16 {
-            return Read { is: false, bits: 0 };
-        }
-        bits = (bits << 4) + d;
-        i += 1;
-    }
-    Read { is: true, bits }
-}
-
 // Whether the line from `at` on is a pattern and the pattern of its root.
 fn agrees(text: &[u8], at: usize) -> bool
     requires { ⌜ at + 34 ≤ length (now text) ⌝ }
 {
-    if text[at + 16] != b' ' || text[at + 33] != b'\n' {
+    let space = at + 16;
+    let second = at + 17;
+    let end = at + 33;
+    if text[space] != b' ' || text[end] != b'\n' {
         return false;
     }
-    let x = word(text, at);
-    let y = word(text, at + 17);
-    x.is && y.is && pattern(float::square_root(value(x.bits))) == y.bits
+    match pattern(&text[at..space]) {
+        Number::Is(x) => match pattern(&text[second..end]) {
+            Number::Is(y) => float::to_bits(float::square_root(float::from_bits(x))) == y,
+            Number::Not => false,
+        },
+        Number::Not => false,
+    }
 }
 
 // How many lines the list has.

@@ -1,7 +1,6 @@
 // Runs the float helpers on known answers: the rows of `rows`, and the list of square roots that is
 // its standard input, made by tools/roots.py. Prints each row or line that differs, and how many it
 // compared.
-mod bits;
 mod list;
 mod rows;
 

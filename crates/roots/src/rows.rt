@@ -1,6 +1,4 @@
 // The values of the helpers that the rules name, each by its pattern.
-use crate::bits::pattern;
-use crate::bits::value;
 
 // One call and its answer: the helper, x, y and the answer. The helper is `m` for magnitude, `s` for
 // sign, `<` for smaller, `>` for larger and `r` for the root. Those of one argument pass y over.
@@ -106,7 +104,9 @@ fn show(row: Row, got: u64) {
 
 // Whether a row holds; one that does not is printed.
 fn holds(row: Row) -> bool {
-    let got = pattern(call(row.0, value(row.1), value(row.2)));
+    let x = float::from_bits(row.1);
+    let y = float::from_bits(row.2);
+    let got = float::to_bits(call(row.0, x, y));
     if got != row.3 {
         show(row, got);
         return false;

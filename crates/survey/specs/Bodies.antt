@@ -8,17 +8,18 @@ use native.Mathlib.Nat.{suc-mul}
 use lib.Ieee.{Float, binary64, ofBits}
 use lib.ListN.{length, take, drop}
 use lib.Seq.{sets}
-use Rattle.survey.specs.Text.{Bytes, LF, space, _>>=_, cut, pattern}
+use Rattle.text.specs.Text.{Bytes, LF, space, _>>=_, cut, pattern, found}
+use Rattle.text.specs.Options.{bind-some}
+use Rattle.text.specs.Digits.{sets-append}
+use Rattle.text.specs.Cuts.{cut-some, cut-none}
 use Rattle.survey.specs.Form.{rowLine, Got, malformed, got, line, andThen, body}
-use Rattle.survey.specs.Code.{run, rowStored, bodyInto, bodyStored}
-use Rattle.survey.specs.Digits.{sets-append}
-use Rattle.survey.specs.Lines.{cut-some, cut-none}
-use Rattle.survey.specs.Found.{bind-some, short-some, short-none}
+use Rattle.survey.specs.Code.{rowStored, bodyInto, bodyStored}
+use Rattle.survey.specs.Found.{short-some, short-none}
 use Rattle.survey.specs.LineSize.{row-short, line-size}
 
 -- ---- a line by its rule
 
-module _ {A : Type 0} (rule : Bytes → Option A) (n : ℕ) (t : Bytes) (p e : ℕ) (f : e ≡ p + run LF (drop p t)) where
+module _ {A : Type 0} (rule : Bytes → Option A) (n : ℕ) (t : Bytes) (p e : ℕ) (f : e ≡ found LF p t) where
   pub line-none : e ≡ length t → line rule n (drop p t) ≡ malformed n
   unfolding line
   line-none g = rw (line, cut-none LF t p e f g)
@@ -90,7 +91,7 @@ body-stored (suc r) c n t m at = go (line (rowLine c) n t) refl (λ n₁ t₁ m�
         ih n₁ t₁ (sets m at xs) ∙ tail xs (row-length c (q .0) xs (q .1)) (body r c n₁ t₁)
 
 -- a turn of the code's loop, j rows done
-module _ (rows c n j : ℕ) (t : Bytes) (p e : ℕ) (m : List Float) (k : ℕ) (f : e ≡ p + run LF (drop p t)) (h : j < rows) (w : c < 48) where
+module _ (rows c n j : ℕ) (t : Bytes) (p e : ℕ) (m : List Float) (k : ℕ) (f : e ≡ found LF p t) (h : j < rows) (w : c < 48) where
   less : rows - j ≡ suc (rows - (j + 1))
   less = omega arith
 

@@ -1,43 +1,23 @@
 -- The definitions as the code goes through them: by positions in the bytes. Definitions only.
 use mathlib.Core.Bool.{true, false}
 use mathlib.Core.Option.{Option, none, some}
-use mathlib.Core.List.{List, [], _∷_}
+use mathlib.Core.List.{List}
 use Prim.Native.Nat.{ℕ, zero, suc, _+_, _<_}
-use lib.Dec.{ltb, eqb}
-use lib.ListN.{length, set, take, drop}
+use lib.Dec.{eqb}
+use lib.ListN.{set, take, drop}
 use lib.Seq.{sets}
 use lib.Ieee.{Float, binary64, ofBits}
 use Rattle.method.specs.Outcome.{Report}
 use Rattle.survey.specs.declared.reading.Entry.{Entry}
-use Rattle.survey.specs.declared.numerals.Number.{Number}
-use Rattle.survey.specs.declared.numerals.Number.the-variants.{Is, Not}
-use Rattle.survey.specs.Text.{Bytes, space, _>>=_, cut, number, pattern}
+use Rattle.text.specs.Text.{Bytes, space, _>>=_, cut, number, pattern}
 use Rattle.survey.specs.declared.reading.Place.{Place}
 use Rattle.survey.specs.declared.reading.Head.{Head}
 use Rattle.survey.specs.Form.{rowLine, Got, malformed, got, line, andThen, body, Survey}
-
-abbrev pub numberOf : Option ℕ → Number
-numberOf none = Not
-numberOf (some n) = Is n
-
--- how many bytes stand before the first `stop`
-unfoldable pub run : ℕ → Bytes → ℕ
-run stop [] = 0
-run stop (b ∷ t) = elim (eqb b stop) [ true ↦ 0 | false ↦ suc (run stop t) ]
-
--- 0 where there is no number
-abbrev pub orZero : Option ℕ → ℕ
-orZero none = 0
-orZero (some n) = n
 
 -- the entry of zeros where there is none
 abbrev pub orNone : Option Entry → Entry
 orNone none = record { id = 0; rows = 0; cols = 0 }
 orNone (some e) = e
-
--- what is found by the position r of the first stop
-unfoldable pub cutAt : Bytes → ℕ → Option (Bytes × Bytes)
-cutAt s r = elim (ltb r (length s)) [ true ↦ some (take r s, drop (suc r) s) | false ↦ none ]
 
 -- a line of n + 1 readings, stored from `at` on where it is one
 unfoldable pub rowStored : ℕ → Bytes → List Float → ℕ → Option (List Float)

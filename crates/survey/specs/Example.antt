@@ -13,7 +13,7 @@ use Rattle.method.specs.Walk.{pass, run}
 use Rattle.method.specs.Checks.{firstOf, firstBad}
 use Rattle.method.specs.Outcome.{accepted, outcome}
 use Rattle.method.specs.Defaults.{defaultTolerance, defaultAbsolute, defaultFloor}
-use Rattle.survey.specs.Text.{Bytes, LF, space, _>>=_, when, cut, worth, value, decimal, number, pattern, digit, digits, placesBy, shown, ending, lineText}
+use Rattle.text.specs.Text.{Bytes, LF, space, _>>=_, when, cut, worth, value, decimal, number, pattern, digit, digits, placesBy, shown, ending, lineText}
 use Rattle.survey.specs.Form.{countLine, named, entryLine, rowLine, short, line, andThen, contents, head, body, bodies, reading}
 use Rattle.survey.specs.Print.{hex, rowText, rowsText, refusedWord, reportText, refusedText, outcomeText, surveyText, surveysText, refusalText, printed, split}
 

@@ -8,7 +8,7 @@ use lib.Dec.{leb, eqb}
 use lib.ListN.{length}
 use lib.Ieee.{Float, binary64, ofBits}
 use Rattle.survey.specs.declared.reading.Entry.{Entry}
-use Rattle.survey.specs.Text.{Bytes, LF, space, _>>=_, when, cut, number, pattern}
+use Rattle.text.specs.Text.{Bytes, LF, space, _>>=_, when, cut, number, pattern}
 
 -- ---- the lines
 

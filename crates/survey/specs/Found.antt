@@ -1,6 +1,6 @@
 -- What was read, was read on the way: from a reading to its parts, and the ranges that its numbers are held to. Assumes nothing.
 use mathlib.Core.Path.{_≡_, refl, subst}
-use mathlib.Core.Bool.{Bool, true, false, _&&_, not}
+use mathlib.Core.Bool.{Bool, true, false, not}
 use mathlib.Core.Option.{Option, none, some}
 use mathlib.Core.List.{List}
 use Prim.Native.Nat.{ℕ, _≤_}
@@ -9,30 +9,10 @@ use borrow.Author.Tests.{leb-true, le-leb}
 use lib.Dec.{leb}
 use lib.ListN.{length}
 use Rattle.survey.specs.declared.reading.Entry.{Entry}
-use Rattle.survey.specs.Text.{Bytes, space, _>>=_, when, cut, decimal, number}
-use Rattle.survey.specs.Form.{named, entryLine, short, Got, malformed, got, line, andThen}
-
-pub bind-some : {A B : Type 0} (o : Option A) (f : A → Option B) (b : B) → (o >>= f) ≡ some b → (a : A) × (o ≡ some a) × (f a ≡ some b)
-unfolding _>>=_
-bind-some none f b e = absurd (let z : _≡_ {A = ℕ} 0 1 = cc in omega arith)
-bind-some (some a) f b e = (a, refl, e)
-
-pub when-some : {A : Type 0} (t : Bool) (a b : A) → when t a ≡ some b → (t ≡ true) × (a ≡ b)
-unfolding when
-when-some true a b e = (refl, cc)
-when-some false a b e = absurd (let z : _≡_ {A = ℕ} 0 1 = cc in omega arith)
-
-pub and-both : (s t : Bool) → (s && t) ≡ true → (s ≡ true) × (t ≡ true)
-and-both true t e = (refl, e)
-and-both false t e = absurd (let z : _≡_ {A = ℕ} 0 1 = cc in omega arith)
-
-pub number-range : (most : ℕ) (l : Bytes) (n : ℕ) → number most l ≡ some n → (1 ≤ n) × (n ≤ most)
-unfolding number
-number-range most l n e =
-    let p = bind-some (decimal l) (λ k. when (leb 1 k && leb k most) k) n e in
-    let q = when-some (leb 1 (p .0) && leb (p .0) most) (p .0) n (p .2) in
-    let r = and-both (leb 1 (p .0)) (leb (p .0) most) (q .0) in
-    (omega (arith, leb-true 1 (p .0) (r .0), q .1), omega (arith, leb-true (p .0) most (r .1), q .1))
+use Rattle.text.specs.Text.{Bytes, space, _>>=_, when, cut, number}
+use Rattle.survey.specs.Form.{named, entryLine, short, Got, malformed, got, andThen}
+use Rattle.text.specs.Options.{bind-some, when-some}
+use Rattle.text.specs.Numerals.{number-range}
 
 -- what an entry is held to
 pub record InRange (e : Entry) : Type 0 where

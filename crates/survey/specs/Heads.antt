@@ -9,12 +9,13 @@ use borrow.Author.Tests.{eq-eqb, ne-eqb}
 use lib.ListN.{length, set, take, drop}
 use lib.Seq.{take-suc-set}
 use Rattle.survey.specs.declared.reading.Entry.{Entry}
-use Rattle.survey.specs.Text.{Bytes, LF, number}
-use Rattle.survey.specs.Form.{entryLine, countLine, malformed, got, line, andThen, contents, head}
+use Rattle.text.specs.Text.{Bytes, LF, number, found}
+use Rattle.text.specs.Code.{orZero}
+use Rattle.text.specs.Numerals.{number-pos, number-range}
+use Rattle.survey.specs.Form.{entryLine, countLine, malformed, got, andThen, contents, head}
 use Rattle.survey.specs.declared.reading.Head.{Head}
-use Rattle.survey.specs.Code.{run, orZero, orNone, headed}
-use Rattle.survey.specs.Lines.{number-pos}
-use Rattle.survey.specs.Found.{number-range, entry-range}
+use Rattle.survey.specs.Code.{orNone, headed}
+use Rattle.survey.specs.Found.{entry-range}
 use Rattle.survey.specs.LineSize.{count-size, entry-size}
 use Rattle.survey.specs.Bodies.{line-none, line-bad, line-got}
 
@@ -30,7 +31,7 @@ entry-known es l x e = go (entryLine es l) refl
         ((λ z. absurd (omega (arith, r .id-least, ap (λ (y : Entry). y .id) q))), (λ z. rw q h))
 
 -- a turn of the code's loop, i entries read
-module _ (count i : ℕ) (es : List Entry) (t : Bytes) (p e : ℕ) (f : e ≡ p + run LF (drop p t)) (h : i < count) where
+module _ (count i : ℕ) (es : List Entry) (t : Bytes) (p e : ℕ) (f : e ≡ found LF p t) (h : i < count) where
   less : count - i ≡ suc (count - (i + 1))
   less = omega arith
 
@@ -58,7 +59,7 @@ unfolding contents
 contents-end count i n es t e = let z : count - count ≡ 0 = omega arith in rw (e, z)
 
 -- the first line
-module _ (t : Bytes) (e : ℕ) (f : e ≡ 0 + run LF t) where
+module _ (t : Bytes) (e : ℕ) (f : e ≡ found LF 0 t) where
   pub head-none : e ≡ length t → head 1 t ≡ malformed 1
   unfolding head andThen
   head-none g = rw (line-none countLine 1 t 0 e f g)

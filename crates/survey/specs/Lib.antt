@@ -1,10 +1,7 @@
 -- The survey text: its form, what `split` prints of it, and the laws.
-pub mod Text
 pub mod Form
 pub mod Print
 pub mod Code
-pub mod Digits
-pub mod Floats
 pub mod Lines
 pub mod Found
 pub mod LineSize

@@ -11,10 +11,10 @@ use lib.Ieee.{Float}
 use lib.ListN.{length, take, drop, take-append-drop}
 use lib.Seq.{length-take-le, take-all}
 use Rattle.survey.specs.declared.reading.Entry.{Entry}
-use Rattle.survey.specs.Text.{Bytes, LF, _>>=_, when, cut}
+use Rattle.text.specs.Text.{Bytes, LF, _>>=_, when, cut}
+use Rattle.text.specs.Numerals.{number-range}
 use Rattle.survey.specs.Form.{countLine, entryLine, rowLine, short, Got, malformed, got, line, andThen, contents, head, body, bodies, reading}
 use Rattle.survey.specs.Print.{printed, split}
-use Rattle.survey.specs.Found.{number-range}
 use Rattle.survey.specs.LineSize.{line-size, count-size}
 use Rattle.survey.specs.Whole.{All, contents-all, area}
 use Rattle.survey.specs.TextSize.{contents-size, body-size}

@@ -8,7 +8,7 @@ use lib.ListN.{take, drop}
 use lib.Ieee.{Float, binary64, toBits}
 use Rattle.method.specs.Outcome.{Word, none, settled, stopped, Report, Outcome, plainOutcome}
 use Rattle.method.specs.Defaults.{defaults}
-use Rattle.survey.specs.Text.{Bytes, digits, shown, lineText}
+use Rattle.text.specs.Text.{Bytes, digits, shown, lineText}
 use Rattle.survey.specs.Form.{Survey, Reading, reading}
 
 -- ---- tables

@@ -12,12 +12,14 @@ use lib.ListN.{length, length-append}
 use Rattle.method.specs.Outcome.{Word, none as noWord, settled, stopped, Outcome, plainOutcome}
 use Rattle.method.specs.Defaults.{defaults}
 use Rattle.survey.specs.declared.reading.Entry.{Entry}
-use Rattle.survey.specs.Text.{Bytes, LF, _>>=_, cut, shown, ending, lineText}
+use Rattle.text.specs.Text.{Bytes, LF, _>>=_, cut, shown, ending, lineText}
+use Rattle.text.specs.Numerals.{number-range}
+use Rattle.text.specs.Writing.{length-shown, places-most}
 use Rattle.survey.specs.Form.{countLine, entryLine, rowLine, short, Got, malformed, got, line, andThen, contents, head, body, bodies, reading}
 use Rattle.survey.specs.Print.{rowsText, refusedWord, wordText, reportText, refusedText, outcomeText, surveyText, surveysText, refusalText, printed, split}
 use Rattle.survey.specs.Code.{Small, surveyOf}
-use Rattle.survey.specs.Found.{InRange, number-range}
-use Rattle.survey.specs.Writing.{refusal-is, length-shown, places-most, length-rows, outcome-accepted, outcome-refused}
+use Rattle.survey.specs.Found.{InRange}
+use Rattle.survey.specs.Writing.{refusal-is, length-rows, outcome-accepted, outcome-refused}
 use Rattle.survey.specs.Answer.{Table, small, same-size}
 use Rattle.survey.specs.Whole.{All, contents-all, body-length, area}
 use Rattle.survey.specs.LineSize.{line-size}

@@ -8,9 +8,10 @@ use native.Mathlib.Nat.{suc-mul, zero-mul}
 use lib.Ieee.{Float}
 use lib.ListN.{length, length-append}
 use Rattle.survey.specs.declared.reading.Entry.{Entry}
-use Rattle.survey.specs.Text.{Bytes, LF, _>>=_, cut, number}
+use Rattle.text.specs.Text.{Bytes, LF, _>>=_, cut}
+use Rattle.text.specs.Numerals.{number-range}
 use Rattle.survey.specs.Form.{countLine, entryLine, rowLine, short, Got, malformed, got, line, andThen, contents, head, body, bodies, reading}
-use Rattle.survey.specs.Found.{number-range, then-got}
+use Rattle.survey.specs.Found.{then-got}
 use Rattle.survey.specs.LineSize.{count-size, entry-size, row-size, line-size}
 use Rattle.survey.specs.Whole.{All, contents-all, area}
 

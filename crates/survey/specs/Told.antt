@@ -14,7 +14,7 @@ use Rattle.method.specs.Outcome.{Outcome, outcomeOf, refused, accepted}
 use Rattle.method.specs.Defaults.{defaults}
 use Rattle.method.specs.Checks.Readings.{FirstBadAt}
 use Rattle.method.specs.Outcome.Refused.{accepted-number}
-use Rattle.survey.specs.Text.{Bytes, shown, lineText, Written}
+use Rattle.text.specs.Text.{Bytes, shown, lineText, Written}
 use Rattle.survey.specs.Form.{Survey}
 use Rattle.survey.specs.Print.{rowsText, reportText, refusedText, refusedWord, outcomeText, surveyText, split}
 use Rattle.survey.specs.Writing.{outcome-accepted, outcome-refused}

@@ -13,7 +13,7 @@ use lib.Seq.{drop-cons, sets, sets-eq, length-sets, drop-length, length-take-le,
 use Rattle.survey.specs.declared.reading.Entry.{Entry}
 use Rattle.survey.specs.declared.reading.Place.{Place}
 use Rattle.survey.specs.declared.reading.Head.{Head}
-use Rattle.survey.specs.Text.{Bytes}
+use Rattle.text.specs.Text.{Bytes}
 use Rattle.survey.specs.Form.{entryLine, rowLine, Got, malformed, got, line, andThen, contents, countLine, head, body, bodies, reading}
 use Rattle.survey.specs.Print.{surveyText, surveysText, refusalText, printed, split}
 use Rattle.survey.specs.Code.{placed, bodyStored, headed, surveyOf}

@@ -1,75 +1,22 @@
 -- Laws of the writing: how long each text is, and its stores one after the other. Assumes nothing.
 use mathlib.Core.Path.{_≡_, refl, sym, ap, _∙_}
-use mathlib.Core.Bool.{Bool, true, false}
 use mathlib.Core.List.{List, [], _∷_, _++_, map}
-use Prim.Native.Nat.{ℕ, zero, suc, _+_, _-_, _*_, _/_, _^_, _<_, _≤_}
+use Prim.Native.Nat.{ℕ, zero, suc, _+_, _-_, _*_, _<_, _≤_}
 use native.Mathlib.Numerals.{add-one}
 use native.Mathlib.Omega.{arith}
-use native.Mathlib.Nat.{mul-le-mul-right, pow-suc, div-lt-iff-lt-mul, suc-mul, zero-mul}
-use borrow.Author.Tests.{lt-ltb, le-ltb, eq-eqb, ne-eqb, ltb-true, ltb-false}
-use lib.Dec.{ltb}
+use native.Mathlib.Nat.{mul-le-mul-right, suc-mul, zero-mul}
+use borrow.Author.Tests.{eq-eqb, ne-eqb}
 use lib.Ieee.{Float, nan, binary64, toBits}
 use lib.ListN.{length, getD, set, take, drop, length-append, length-drop, take-append-drop}
-use lib.Seq.{drop-cons, sets, drop-length, drop-drop, length-take-le, take-append-le, drop-append-le}
+use lib.Seq.{drop-cons, sets, drop-drop, length-take-le, take-append-le, drop-append-le}
 use Rattle.method.specs.Outcome.{Outcome}
-use Rattle.survey.specs.Text.{Bytes, LF, space, digits, placesBy, shown, ending, lineText, Written}
+use Rattle.text.specs.Text.{Bytes, LF, space, digits, shown, ending, lineText, Written}
+use Rattle.text.specs.Digits.{sets-append, length-digits}
 use Rattle.survey.specs.Print.{hex, rowText, rowsText, refusedWord, reportText, refusedText, outcomeText, refusalText}
-use Rattle.survey.specs.Digits.{sets-append, length-digits}
-
--- ---- how many digits
-
--- more fuel than enough is enough
-pub places-fuel : (f g n : ℕ) → n ≤ f → n ≤ g → placesBy f n ≡ placesBy g n
-unfolding placesBy
-places-fuel zero zero n a b = refl
-places-fuel zero (suc g) n a b = let z : n ≡ 0 = omega arith in rw z
-places-fuel (suc f) zero n a b = let z : n ≡ 0 = omega arith in rw z
-places-fuel (suc f) (suc g) n a b = go (ltb n 10) refl (λ h. places-fuel f g (n / 10) (omega arith) (omega arith))
-  where
-    go : (x : Bool) → ltb n 10 ≡ x → (10 ≤ n → placesBy f (n / 10) ≡ placesBy g (n / 10)) → placesBy (suc f) n ≡ placesBy (suc g) n
-    go true x ih = rw (placesBy, x)
-    go false x ih = let h = ih (ltb-false n 10 x) in rw (placesBy, x) (ap suc h)
-
-pub places-next : (n : ℕ) → 10 ≤ n → placesBy n n ≡ suc (placesBy (n / 10) (n / 10))
-unfolding placesBy
-places-next zero h = absurd (omega arith)
-places-next (suc n) h = rw (placesBy, le-ltb (suc n) 10 h) (ap suc (places-fuel n (suc n / 10) (suc n / 10) (omega arith) (omega arith)))
-
-pub places-end : (n : ℕ) → n < 10 → placesBy n n ≡ 1
-unfolding placesBy
-places-end zero h = refl
-places-end (suc n) h = rw (placesBy, lt-ltb (suc n) 10 h)
-
--- ---- a text's length, and its stores one after the other
-
-pub length-shown : (n : ℕ) → length (shown n) ≡ placesBy n n
-unfolding shown
-length-shown n = length-digits 10 (placesBy n n) n
 
 pub length-hex : (x : Float) → length (hex x) ≡ 16
 unfolding hex
 length-hex x = length-digits 16 16 (toBits binary64 x)
-
--- fewer than 10 ^ k has at most k digits
-pub places-most : (k n : ℕ) → n < 10 ^ suc k → placesBy n n ≤ suc k
-places-most zero n h = omega (arith, places-end n (omega arith))
-places-most (suc k) n h = go (ltb n 10) refl (places-most k (n / 10))
-  where
-    go : (x : Bool) → ltb n 10 ≡ x → (n / 10 < 10 ^ suc k → placesBy (n / 10) (n / 10) ≤ suc k) → placesBy n n ≤ suc (suc k)
-    go true x ih = omega (arith, places-end n (ltb-true n 10 x))
-    go false x ih =
-        let g : n < 10 ^ suc k * 10 = rw pow-suc at h in
-        let d : n / 10 < 10 ^ suc k = div-lt-iff-lt-mul {k = 10} (omega arith) .1 g in
-        omega (arith, places-next n (ltb-false n 10 x), ih d)
-
--- ---- bytes stored one by one
-pub sets-next : (s out : Bytes) (at i : ℕ) → i < length s → sets out (at + i) (drop i s) ≡ sets (set out (at + i) (getD s i 0)) (at + (i + 1)) (drop (i + 1) s)
-sets-next s out at i h =
-    let y : suc (at + i) ≡ at + suc i = omega arith in
-    rw (add-one i, drop-cons s i 0 h, ← y)
-
-pub sets-end : (s out : Bytes) (at i : ℕ) → i ≡ length s → sets out at (drop i s) ≡ out
-sets-end s out at i e = rw (e, drop-length)
 
 -- ---- a line of readings
 

@@ -9,7 +9,7 @@ ghost use Rattle.method.specs.Outcome.{outcomeOf, plainOutcome};
 ghost use Rattle.method.specs.Defaults.{defaults};
 ghost use Rattle.svd.specs.Values.{reportOf};
 ghost use Rattle.survey.specs.Print.{surveyText, split};
-ghost use Rattle.survey.specs.Text.{Written};
+ghost use Rattle.text.specs.Text.{Written};
 ghost use Rattle.survey.specs.Code.{surveyOf};
 ghost use Rattle.survey.specs.Found.{InRange};
 use crate::reading::Entry;

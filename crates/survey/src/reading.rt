@@ -3,14 +3,13 @@ ghost use mathlib.Core.Path.{_≡_};
 ghost use mathlib.Core.List.{[]};
 ghost use Prim.Native.Nat.{_+_, _*_, _<_, _≤_};
 ghost use lib.ListN.{length, take, drop};
-ghost use Rattle.survey.specs.Text.{when};
+ghost use Rattle.text.specs.Text.{when};
 ghost use Rattle.survey.specs.Form.{named as namedIn, entryLine, contents as contentsIn, head as headIn};
 ghost use Rattle.survey.specs.Code.{orNone, rowStored, placed, bodyStored, headed};
-use crate::numerals::Number;
-use crate::numerals::find;
-use crate::numerals::float_of;
-use crate::numerals::pattern;
-use crate::numerals::whole;
+use text::fields::find;
+use text::numerals::Number;
+use text::numerals::pattern;
+use text::numerals::whole;
 
 // A survey's line of the contents.
 pub(crate) struct Entry {
@@ -106,7 +105,7 @@ fn row_line(l: &[u8], c: usize, m: &mut [f64; 2304], at: usize) -> bool
         }
         match pattern(&l[p..e]) {
             Number::Is(b) => {
-                m[at + k] = float_of(b);
+                m[at + k] = float::from_bits(b);
             }
             Number::Not => {
                 return false;
@@ -117,7 +116,7 @@ fn row_line(l: &[u8], c: usize, m: &mut [f64; 2304], at: usize) -> bool
     }
     match pattern(&l[p..]) {
         Number::Is(b) => {
-            m[at + c] = float_of(b);
+            m[at + c] = float::from_bits(b);
             true
         }
         Number::Not => false,

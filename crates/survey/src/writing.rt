@@ -7,11 +7,10 @@ ghost use lib.Seq.{sets};
 ghost use Rattle.method.specs.Work.{work};
 ghost use Rattle.method.specs.Outcome.{outcomeOf};
 ghost use Rattle.svd.specs.Values.{reportOf, wordOf};
-ghost use Rattle.survey.specs.Text.{digits as digitsOf, shown, space, Written};
+ghost use Rattle.text.specs.Text.{digits as digitsOf, shown, space, Written};
 ghost use Rattle.survey.specs.Print.{rowText, rowsText, wordText, reportText, refusedText, outcomeText, refusalText};
 ghost use Rattle.survey.specs.Code.{Small};
 use crate::numerals::digit;
-use crate::numerals::pattern_of;
 use crate::numerals::places;
 use crate::reading::Entry;
 use svd::report::Report;
@@ -84,7 +83,7 @@ fn put_row(out: &mut [u8; 314000], at: usize, m: &[f64], from: usize, c: usize) 
     let mut k = 0;
     while k < c {
         let x = m[from + k];
-        put_digits(out, q, 16, 16, pattern_of(x));
+        put_digits(out, q, 16, 16, float::to_bits(x));
         let z = q + 16;
         q += 17;
         k += 1;

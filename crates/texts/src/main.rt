@@ -5,6 +5,8 @@
 ghost use mathlib.Core.Path.{_≡_};
 ghost use Prim.Native.Nat.{_+_, _≤_, _<_};
 ghost use lib.ListN.{length};
+use text::numerals::Number;
+use text::numerals::value;
 
 // Room for the list and more: one that filled it would end within a text.
 fn whole() -> [u8; 500000]
@@ -20,38 +22,19 @@ fn blank() -> [u8; 314000]
     [0; 314000]
 }
 
-// What a byte is worth as a digit; 10 where it is none.
-fn worth(b: u8) -> usize
-    ensures { λ r. ⌜ r ≤ 10 ⌝ }
-{
-    if b < 48 {
-        return 10;
-    }
-    if b > 57 {
-        return 10;
-    }
-    (b - 48) as usize
-}
-
 // The number that six digits and an LF from `at` on say; 999,999 where they are none.
 fn number(list: &[u8], at: usize) -> usize
     requires { ⌜ at + 7 ≤ length (now list) ⌝ }
     ensures { λ r. ⌜ r < 1000000 ⌝ }
 {
-    if list[at + 6] != 10 {
+    let end = at + 6;
+    if list[end] != 10 {
         return 999999;
     }
-    let mut value: usize = 0;
-    let mut i = 0;
-    while i < 6 {
-        let d = worth(list[at + i]);
-        if d > 9 {
-            return 999999;
-        }
-        value = value % 100000 * 10 + d;
-        i += 1;
+    match value(&list[at..end], 10) {
+        Number::Is(n) => n as usize,
+        Number::Not => 999999,
     }
-    value
 }
 
 // Whether a and b are the same bytes.

@@ -1,4 +1,4 @@
-// Words of 8 bytes, the lowest byte first, and doubles by their bit patterns, all NaNs alike.
+// Words of 8 bytes, the lowest byte first, and lists of doubles by their bit patterns, all NaNs alike.
 ghost use mathlib.Core.Path.{_≡_};
 ghost use Prim.Native.Nat.{_+_, _<_, _≤_};
 ghost use lib.ListN.{length};
@@ -23,22 +23,6 @@ pub(crate) fn word(bytes: &[u8], at: usize) -> u64
     w
 }
 
-// The double that a pattern stands for.
-pub(crate) fn value(w: u64) -> f64 {
-    if (w << 1) >> 1 > 0x7ff0_0000_0000_0000 {
-        return 0.0 / 0.0;
-    }
-    f64::from_bits(w)
-}
-
-// The pattern of a double.
-fn pattern(x: f64) -> u64 {
-    if x != x {
-        return 0x7ff8_0000_0000_0000;
-    }
-    f64::to_bits(x)
-}
-
 // Fills the list with the doubles of the bytes; whether there are as many of them.
 pub(crate) fn decode(bytes: &[u8], list: &mut [f64]) -> bool {
     if bytes.len() / 8 != list.len() {
@@ -47,7 +31,7 @@ pub(crate) fn decode(bytes: &[u8], list: &mut [f64]) -> bool {
     let n = list.len();
     let mut i = 0;
     while i < n {
-        list[i] = value(word(bytes, 8 * i));
+        list[i] = float::from_bits(word(bytes, 8 * i));
         i += 1;
     }
     true
@@ -72,7 +56,7 @@ pub(crate) fn same(a: &[f64], b: &[f64]) -> bool {
     }
     let mut i = 0;
     while i < a.len() {
-        if pattern(a[i]) != pattern(b[i]) {
+        if float::to_bits(a[i]) != float::to_bits(b[i]) {
             return false;
         }
         i += 1;

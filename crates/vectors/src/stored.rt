@@ -7,7 +7,6 @@
 //   the answer: number, place, word (0 none, 1 settled, 2 stopped), passes, sweeps, drops, range;
 //   with number 0 the matrix, U and V afterwards; else they are as they were.
 use crate::bits::decode;
-use crate::bits::value;
 use crate::bits::word;
 use checks::settings::Settings;
 use factors::identity::identity_flat;
@@ -79,9 +78,9 @@ fn settings_of(bytes: &[u8]) -> Settings
     Settings {
         limit: word(bytes, 16) as usize,
         credit: word(bytes, 24) as usize,
-        tolerance: value(word(bytes, 32)),
-        absolute: value(word(bytes, 40)),
-        floor: value(word(bytes, 48)),
+        tolerance: float::from_bits(word(bytes, 32)),
+        absolute: float::from_bits(word(bytes, 40)),
+        floor: float::from_bits(word(bytes, 48)),
     }
 }
 

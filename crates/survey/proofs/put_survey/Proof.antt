@@ -12,7 +12,7 @@ use Rattle.method.specs.Outcome.{Outcome, outcomeOf, plainOutcome}
 use Rattle.method.specs.Defaults.{defaults}
 use Rattle.svd.specs.Values.{reportOf}
 use Rattle.survey.specs.Print.{surveyText, outcomeText}
-use Rattle.survey.specs.Text.{Written}
+use Rattle.text.specs.Text.{Written}
 use Rattle.survey.specs.Code.{Small}
 use Rattle.survey.specs.Answer.{Table, small}
 use Rattle.survey.specs.Whole.{area}

@@ -9,10 +9,10 @@ use lib.ListN.{length, getD, take, length-append}
 use lib.Seq.{sets}
 use lib.Ieee.{Float}
 use Rattle.survey.specs.declared.reading.Entry.{Entry}
-use Rattle.survey.specs.Text.{Bytes, Written}
+use Rattle.text.specs.Text.{Bytes, Written}
+use Rattle.text.specs.Digits.{sets-append}
 use Rattle.survey.specs.Print.{split, surveyText}
 use Rattle.survey.specs.Code.{surveyOf}
-use Rattle.survey.specs.Digits.{sets-append}
 use Rattle.survey.specs.Lines.{zeros}
 use Rattle.survey.specs.Found.{InRange}
 use Rattle.survey.specs.Whole.{All, left, range, turn-bad, turn-got, area, begin-bad, begin-got, done-whole, done-extra}

@@ -1,21 +1,30 @@
--- `texts::number` meets its contract: six digits keep the value below a million; the measure is how many are left. Assumes nothing.
-use Prim.Native.Nat.{_-_, _<_, _≤_}
+-- `texts::number` meets its contract: six digits say less than a million. Assumes nothing.
+use mathlib.Core.Path.{_≡_, sym, ap, _∙_}
+use Prim.Native.Nat.{ℕ, _+_, _-_, _^_, _<_}
+use native.Mathlib.Omega.{arith}
 use borrow.Author.Needs.{needs}
+use lib.ListN.{length, take, drop, length-drop}
+use lib.Seq.{length-take-le}
+use Rattle.text.specs.Options.{is-some}
+use Rattle.text.specs.Numerals.{numeral-below}
 use Rattle.texts.proofs.number.Statement.{statement}
 use Rattle.texts.proofs.number.Tie as tie
 
-abbrev Inv-loop : tie.InvT-loop
-Inv-loop list at value₀ i₀ value i = (i ≤ 6) × (value < 1000000)
-
-abbrev μ-loop : tie.MeasureT-loop
-μ-loop list at value₀ i₀ value i = 6 - i
+returns-2 : tie.Need-returns-2
+returns-2 c =
+    let at-value = c .before .before .before in
+    let ar = at-value .before .before .before .before .before .args in
+    let six = take (ar .at + 6 - ar .at) (drop (ar .at) (ar .list .now)) in
+    let s : ar .at + 6 - ar .at ≡ 6 = omega arith in
+    let n : length six ≡ 6 = rw s (length-take-le 6 (drop (ar .at) (ar .list .now)) (simp length-drop (omega arith))) in
+    let e = is-some _ _ (sym (c .before .n .given .1) ∙ at-value .value .ensures) in
+    let b : c .before .n .given .0 .0 < 10 ^ length six = numeral-below 10 six _ (omega arith) e in
+    omega (arith, b, ap (λ (k : ℕ). 10 ^ k) n)
 
 pub number-spec : {M : Type 1} → statement M
 number-spec =
     tie.close
     (tie.spec
-    Inv-loop
-    μ-loop
     (λ c. search needs)
     (λ c. search needs)
     (λ c. search needs)
@@ -25,8 +34,5 @@ number-spec =
     (λ c κs. search needs)
     (λ c. search needs)
     (λ c. search needs)
-    (λ c. search needs)
-    (λ c. search needs)
-    (λ c. search needs)
-    (λ c. search needs)
+    returns-2
     (λ c. search needs))

@@ -1,6 +1,6 @@
 -- `survey::numerals::digit` meets its contract: the two ranges of digits. Assumes nothing.
 use borrow.Author.Needs.{needs}
-use Rattle.survey.specs.Digits.{digit-low, digit-high}
+use Rattle.text.specs.Digits.{digit-low, digit-high}
 use Rattle.survey.proofs.numerals.digit.Statement.{statement}
 use Rattle.survey.proofs.numerals.digit.Tie as tie
 

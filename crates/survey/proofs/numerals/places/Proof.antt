@@ -1,9 +1,9 @@
 -- `survey::numerals::places` meets its contract: the digits of what is left and those that were counted are all; the measure is what is left. Assumes nothing.
 use mathlib.Core.Path.{_≡_, refl}
-use Prim.Native.Nat.{_+_, _-_, _<_, _≤_}
+use Prim.Native.Nat.{_+_, _<_, _≤_}
 use native.Mathlib.Omega.{arith}
-use Rattle.survey.specs.Writing.{places-most, places-next, places-end}
-use Rattle.survey.specs.Text.{placesBy}
+use Rattle.text.specs.Text.{placesBy}
+use Rattle.text.specs.Writing.{places-most, places-next, places-end}
 use Rattle.survey.proofs.numerals.places.Statement.{statement}
 use Rattle.survey.proofs.numerals.places.Tie as tie
 

@@ -7,8 +7,9 @@ use native.Mathlib.Omega.{arith}
 use borrow.Author.Needs.{needs}
 use lib.ListN.{drop, length}
 use Rattle.survey.specs.Bodies.{body-none, body-bad, body-next, body-end, body-stored, room}
+use Rattle.text.specs.Text.{when}
 use Rattle.survey.specs.Code.{bodyInto, bodyStored, placed}
-use Rattle.survey.specs.Text.{when}
+use Rattle.text.specs.Cuts.{found-least}
 use Rattle.survey.proofs.reading.body.Statement.{statement}
 use Rattle.survey.proofs.reading.body.Tie as tie
 
@@ -29,6 +30,12 @@ taken r a o e h = rw e at h
 left : {A : Type 0} (r : Bool) (a : A) (o : Option A) → r ≡ false → when r a ≡ o → none ≡ o
 unfolding when
 left r a o e h = rw e at h
+
+-- and it is not before where the search began
+onwards : (c : tie.Else1 Inv-loop μ-loop) → c .before .before .before .loop .p ≤ c .before .find .result
+onwards c =
+    let at-loop = c .before .before .before in
+    omega (arith, c .before .find .ensures .0, found-least 10 (at-loop .loop .p) (at-loop .before .before .args .text .now) (at-loop .loop .inv .1))
 
 loop-holds : tie.Need-loop-holds Inv-loop μ-loop
 loop-holds c =
@@ -105,9 +112,9 @@ body-spec =
     (λ c κs. search needs)
     (λ c. search needs)
     returns
-    (λ c. search needs)
-    (λ c. search needs)
-    (λ c. search needs)
+    (λ c. omega (arith, onwards c))
+    (λ c. omega (arith, onwards c))
+    (λ c. omega (arith, onwards c))
     row-line-requires
     (λ c. search needs)
     (λ c. search needs)

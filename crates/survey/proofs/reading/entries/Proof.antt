@@ -7,7 +7,8 @@ use native.Mathlib.Omega.{arith}
 use borrow.Author.Needs.{needs}
 use lib.ListN.{drop, take, length, length-set}
 use Rattle.survey.specs.Heads.{headed-got, headed-bad, contents-none, contents-bad, contents-next, contents-end}
-use Rattle.survey.specs.Form.{contents, malformed}
+use Rattle.survey.specs.Form.{contents}
+use Rattle.text.specs.Cuts.{found-least}
 use Rattle.survey.proofs.reading.entries.Statement.{statement}
 use Rattle.survey.proofs.reading.entries.Tie as tie
 
@@ -21,6 +22,12 @@ abbrev μ-loop : tie.MeasureT-loop
 -- the LF is inside
 inside : (c : tie.Else1 Inv-loop μ-loop) → c .before .find .result < length (c .before .before .before .before .before .args .text .now)
 inside c = omega arith
+
+-- and it is not before where the search began
+onwards : (c : tie.Else1 Inv-loop μ-loop) → c .before .before .before .loop .p ≤ c .before .find .result
+onwards c =
+    let at-loop = c .before .before .before in
+    omega (arith, c .before .find .ensures .0, found-least 10 (at-loop .loop .p) (at-loop .before .before .args .text .now) (at-loop .loop .inv .1))
 
 loop-holds : tie.Need-loop-holds Inv-loop μ-loop
 loop-holds c =
@@ -84,9 +91,9 @@ entries-spec =
     (λ c. search needs)
     (λ c κs. search needs)
     returns
-    (λ c. search needs)
-    (λ c. search needs)
-    (λ c. search needs)
+    (λ c. omega (arith, onwards c))
+    (λ c. omega (arith, onwards c))
+    (λ c. omega (arith, onwards c))
     (λ c κs. search needs)
     (λ c. search needs)
     (λ c κs. search needs)

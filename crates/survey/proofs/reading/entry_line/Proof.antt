@@ -1,11 +1,12 @@
 -- `survey::reading::entry_line` meets its contract: a law for each way out. Assumes nothing.
 use mathlib.Core.Path.{sym, _∙_}
-use Prim.Native.Nat.{_<_}
+use Prim.Native.Nat.{_+_, _<_, _≤_}
 use native.Mathlib.Omega.{arith}
 use borrow.Author.Needs.{needs}
 use lib.Seq.{length-take-le}
 use lib.ListN.{length}
 use Rattle.survey.specs.Lines.{entry-none, entry-none-2, entry-id, entry-rows, entry-cols, entry-twice, entry-new}
+use Rattle.text.specs.Cuts.{found-least}
 use Rattle.survey.proofs.reading.entry_line.Statement.{statement}
 use Rattle.survey.proofs.reading.entry_line.Tie as tie
 
@@ -15,6 +16,14 @@ first c = omega arith
 
 second : (c : tie.Else2) → c .before .find2 .result < length (c .before .before .before .before .before .args .l .now)
 second c = omega arith
+
+-- and the second is past the first
+onwards : (c : tie.Else2) → c .before .before .before .find .result + 1 ≤ c .before .find2 .result
+onwards c =
+    let l = c .before .before .before .before .before .args .l .now in
+    let a = c .before .before .before .find .result in
+    let h : a + 1 ≤ length l = omega (arith, first (c .before .before)) in
+    omega (arith, c .before .find2 .ensures .0, found-least 32 (a + 1) l h)
 
 returns : tie.Need-returns
 returns c = entry-none _ _ _ (c .before .find .ensures .0) (c .if1 .taken)
@@ -95,9 +104,9 @@ entry-line-spec =
     slice-aggregate-whole
     (λ c κs. search needs)
     returns-3
-    (λ c. search needs)
-    (λ c. search needs)
-    (λ c. search needs)
+    (λ c. omega (arith, onwards (c .before .before .before)))
+    (λ c. omega (arith, onwards (c .before .before .before)))
+    (λ c. omega (arith, onwards (c .before .before .before)))
     (λ c κs. search needs)
     returns-4
     (λ c. search needs)

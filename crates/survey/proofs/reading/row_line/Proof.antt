@@ -4,9 +4,11 @@ use Prim.Native.Nat.{_+_, _-_, _<_, _≤_}
 use native.Mathlib.Omega.{arith}
 use borrow.Author.Needs.{needs}
 use lib.ListN.{drop, length}
-use Rattle.survey.specs.Text.{when}
-use Rattle.survey.specs.Lines.{row-none, row-bad, row-next, row-last, row-last-bad, row-stored, is-some, is-none}
+use Rattle.text.specs.Text.{when}
+use Rattle.text.specs.Options.{is-some, is-none}
+use Rattle.survey.specs.Lines.{row-none, row-bad, row-next, row-last, row-last-bad, row-stored}
 use Rattle.survey.specs.Code.{rowInto}
+use Rattle.text.specs.Cuts.{found-least}
 use Rattle.survey.proofs.reading.row_line.Statement.{statement}
 use Rattle.survey.proofs.reading.row_line.Tie as tie
 
@@ -18,6 +20,12 @@ abbrev μ-loop : tie.MeasureT-loop
 
 inside : (c : tie.Else1 Inv-loop μ-loop) → c .before .find .result < length (c .before .before .before .before .before .args .l .now)
 inside c = omega arith
+
+-- and it is not before where the search began
+onwards : (c : tie.Else1 Inv-loop μ-loop) → c .before .before .before .loop .p ≤ c .before .find .result
+onwards c =
+    let at-loop = c .before .before .before in
+    omega (arith, c .before .find .ensures .0, found-least 32 (at-loop .loop .p) (at-loop .before .before .args .l .now) (at-loop .loop .inv .1))
 
 loop-holds : tie.Need-loop-holds Inv-loop μ-loop
 loop-holds c =
@@ -53,7 +61,7 @@ loop-again c =
     let h = inside (c .before .before .before .before .before .before) in (
       omega arith,
       omega (arith, h),
-      rw (c .float-of .ensures) (sym (row-next _ _ _ _ _ _ _ (fd .find .ensures .0) (fd .before .loop-test .taken) _ h (is-some _ _ (sym (c .before .before .b .given .1) ∙ at-pattern .pattern .ensures)))
+      rw (c .from-bits .ensures) (sym (row-next _ _ _ _ _ _ _ (fd .find .ensures .0) (fd .before .loop-test .taken) _ h (is-some _ _ (sym (c .before .before .b .given .1) ∙ at-pattern .pattern .ensures)))
           ∙ lp .inv .2),
     )
 
@@ -66,7 +74,7 @@ returns-3 c =
     let lp = lp .loop in
     let ar = st .args in
     let e : lp .k ≡ ar .c = omega arith in
-    rw (c .float-of2 .ensures) (sym (row-last (ar .l .now) (ar .c) (lp .k) (lp .p) (ar .at) (lp .m) e _ (is-some _ _ (sym (c .before .before .b2 .given .1) ∙ at-pattern2 .pattern2 .ensures)))
+    rw (c .from-bits2 .ensures) (sym (row-last (ar .l .now) (ar .c) (lp .k) (lp .p) (ar .at) (lp .m) e _ (is-some _ _ (sym (c .before .before .b2 .given .1) ∙ at-pattern2 .pattern2 .ensures)))
     ∙ lp .inv .2 ∙ row-stored _ _ _ _)
 
 returns-4 : tie.Need-returns-4 Inv-loop μ-loop
@@ -89,9 +97,9 @@ row-line-spec =
     loop-holds
     (λ c κs. search needs)
     returns
-    (λ c. search needs)
-    (λ c. search needs)
-    (λ c. search needs)
+    (λ c. omega (arith, onwards c))
+    (λ c. omega (arith, onwards c))
+    (λ c. omega (arith, onwards c))
     (λ c κs. search needs)
     (λ c. search needs)
     (λ c κs. search needs)

@@ -5,7 +5,7 @@ use native.Mathlib.Omega.{arith}
 use borrow.Author.Needs.{needs}
 use lib.Seq.{sets}
 use lib.ListN.{drop, length}
-use Rattle.survey.specs.Writing.{sets-next, sets-end}
+use Rattle.text.specs.Writing.{sets-next, sets-end}
 use Rattle.survey.proofs.writing.put_bytes.Statement.{statement}
 use Rattle.survey.proofs.writing.put_bytes.Tie as tie
 

@@ -1,8 +1,8 @@
 -- `survey::writing::put_decimal` meets its contract: as many digits as the number has. Assumes nothing.
 use native.Mathlib.Omega.{arith}
 use borrow.Author.Needs.{needs}
-use Rattle.survey.specs.Writing.{length-shown}
-use Rattle.survey.specs.Text.{shown}
+use Rattle.text.specs.Text.{shown}
+use Rattle.text.specs.Writing.{length-shown}
 use Rattle.survey.proofs.writing.put_decimal.Statement.{statement}
 use Rattle.survey.proofs.writing.put_decimal.Tie as tie
 

@@ -1,12 +1,12 @@
 -- `survey::writing::put_digits` meets its contract: the j digits still to write give the whole; the measure is j. Assumes nothing.
 use mathlib.Core.Path.{_≡_, refl, sym, _∙_}
-use Prim.Native.Nat.{_-_, _<_, _≤_}
+use Prim.Native.Nat.{_<_, _≤_}
 use native.Mathlib.Nat.{mod-lt}
 use native.Mathlib.Omega.{arith}
 use borrow.Author.Needs.{needs}
 use lib.Seq.{sets}
-use Rattle.survey.specs.Digits.{digits-none, digits-next}
-use Rattle.survey.specs.Text.{digits as digitsOf}
+use Rattle.text.specs.Text.{digits as digitsOf}
+use Rattle.text.specs.Digits.{digits-none, digits-next}
 use Rattle.survey.proofs.writing.put_digits.Statement.{statement}
 use Rattle.survey.proofs.writing.put_digits.Tie as tie
 

@@ -12,7 +12,7 @@ use Rattle.svd.specs.Values.{reportOf}
 use Rattle.svd.specs.declared.report.Report.{Report}
 use Rattle.survey.specs.declared.reading.Entry.{Entry}
 use Rattle.survey.specs.Print.{rowsText}
-use Rattle.survey.specs.Text.{Written}
+use Rattle.text.specs.Text.{Written}
 use Rattle.survey.specs.Writing.{outcome-refused, then, length-rows, rows-taken, outcome-accepted}
 use Rattle.survey.proofs.writing.put_outcome.Statement.{statement}
 use Rattle.survey.proofs.writing.put_outcome.Tie as tie

@@ -1,8 +1,8 @@
 -- `survey::writing::put_refusal` meets its contract: the fields one after the other. Assumes nothing.
 use native.Mathlib.Omega.{arith}
 use borrow.Author.Needs.{needs}
+use Rattle.text.specs.Text.{ending, lineText}
 use Rattle.survey.specs.Writing.{then, refusal-is}
-use Rattle.survey.specs.Text.{ending, lineText}
 use Rattle.survey.proofs.writing.put_refusal.Statement.{statement}
 use Rattle.survey.proofs.writing.put_refusal.Tie as tie
 

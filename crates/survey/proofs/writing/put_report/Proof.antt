@@ -1,8 +1,8 @@
 -- `survey::writing::put_report` meets its contract: the fields one after the other. Assumes nothing.
 use native.Mathlib.Omega.{arith}
 use borrow.Author.Needs.{needs}
+use Rattle.text.specs.Text.{ending, lineText}
 use Rattle.survey.specs.Writing.{then}
-use Rattle.survey.specs.Text.{ending, lineText}
 use Rattle.survey.specs.Print.{reportText}
 use Rattle.survey.proofs.writing.put_report.Statement.{statement}
 use Rattle.survey.proofs.writing.put_report.Tie as tie

@@ -31,7 +31,7 @@ loop-again c =
     let ar = st .args in
     let lp = lp .loop in
     let pd = c .before .put-digits .ensures in
-    let po = c .before .before .pattern-of .ensures in
+    let po = c .before .before .to-bits .ensures in
     (omega arith, omega arith, step-more _ _ _ _ _ _ _ _ (at-loop-test .loop-test .taken) (st .pre .0) pd po (c .if1 .taken) ∙ lp .inv .2)
 
 loop-again-2 : tie.Need-loop-again-2 Inv-loop μ-loop
@@ -42,7 +42,7 @@ loop-again-2 c =
     let ar = st .args in
     let lp = lp .loop in
     let pd = c .before .put-digits .ensures in
-    let po = c .before .before .pattern-of .ensures in
+    let po = c .before .before .to-bits .ensures in
     (omega arith, omega arith, step-last _ _ _ _ _ _ _ _ (at-loop-test .loop-test .taken) (st .pre .0) pd po (c .if1 .left) ∙ lp .inv .2)
 
 returns : tie.Need-returns Inv-loop μ-loop
