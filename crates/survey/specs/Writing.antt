@@ -1,4 +1,4 @@
--- Laws of the writing: how long each text is, and its stores one after the other. Assumes nothing.
+-- Laws of the writing: each text part by part, and how long it is. Assumes nothing.
 use mathlib.Core.Path.{_≡_, refl, sym, ap, _∙_}
 use mathlib.Core.List.{List, [], _∷_, _++_, map}
 use Prim.Native.Nat.{ℕ, zero, suc, _+_, _-_, _*_, _<_, _≤_}
@@ -7,16 +7,22 @@ use native.Mathlib.Omega.{arith}
 use native.Mathlib.Nat.{mul-le-mul-right, suc-mul, zero-mul}
 use borrow.Author.Tests.{eq-eqb, ne-eqb}
 use lib.Ieee.{Float, nan, binary64, toBits}
-use lib.ListN.{length, getD, set, take, drop, length-append, length-drop, take-append-drop}
-use lib.Seq.{drop-cons, sets, drop-drop, length-take-le, take-append-le, drop-append-le}
+use lib.ListN.{length, getD, take, drop, length-append, length-drop, take-append-drop}
+use lib.Seq.{drop-cons, drop-drop, length-take-le, take-append-le, drop-append-le}
 use Rattle.method.specs.Outcome.{Outcome}
-use Rattle.text.specs.Text.{Bytes, LF, space, digits, shown, ending, lineText, Written}
-use Rattle.text.specs.Digits.{sets-append, length-digits}
+use Rattle.text.specs.Text.{Bytes, LF, space, digits, shown, ending, lineText, leaves, putAt}
+use Rattle.text.specs.Writing.{Wrote, wrote}
+use Rattle.text.specs.Digits.{length-digits}
 use Rattle.survey.specs.Print.{hex, rowText, rowsText, refusedWord, reportText, refusedText, outcomeText, refusalText}
 
 pub length-hex : (x : Float) → length (hex x) ≡ 16
 unfolding hex
 length-hex x = length-digits 16 16 (toBits binary64 x)
+
+-- a float's digits, as the code writes them
+pub hex-wrote : (out o : Bytes) (q a p : ℕ) (x : Float) → p ≡ toBits binary64 x → leaves o a ≡ putAt q (digits 16 16 p) out → Wrote out q (hex x) o a
+unfolding hex
+hex-wrote out o q a p x e h = wrote out q (hex x) o a (rw e at h)
 
 -- ---- a line of readings
 
@@ -38,15 +44,11 @@ unfolding ending
 after-last [] h = refl
 after-last (x ∷ xs) h = absurd (omega arith)
 
-pub row-next : (x : Float) (xs : List Float) (out : Bytes) (q s : ℕ) → s ≡ ending (map hex xs)
-    → sets out q (rowText (x ∷ xs)) ≡ sets (set (sets out q (hex x)) (q + 16) s) (q + 17) (rowText xs)
+pub row-next : (x : Float) (xs : List Float) (s : ℕ) → s ≡ ending (map hex xs) → rowText (x ∷ xs) ≡ hex x ++ (s ∷ rowText xs)
 unfolding rowText lineText
-row-next x xs out q s e =
-    let y : suc (q + 16) ≡ q + 17 = omega arith in
-    rw e (sets-append (hex x) (ending (map hex xs) ∷ rowText xs) out q ∙ rw (length-hex x, ← y))
+row-next x xs s e = rw e
 
-module _ (m : List Float) (from c k : ℕ) (out last : Bytes) (q p : ℕ) (h : k < c) (g : from + c ≤ length m)
-    (e : last ≡ sets out q (digits 16 16 p)) (f : p ≡ toBits binary64 (getD m (from + k) nan)) where
+module _ (m : List Float) (from c k : ℕ) (h : k < c) (g : from + c ≤ length m) where
   others : List Float
   others = take (c - (k + 1)) (drop (from + (k + 1)) m)
 
@@ -54,24 +56,19 @@ module _ (m : List Float) (from c k : ℕ) (out last : Bytes) (q p : ℕ) (h : k
   unfolding others
   length-others = length-take-le (c - (k + 1)) (drop (from + (k + 1)) m) (simp length-drop (omega arith))
 
-  step : (s : ℕ) → s ≡ ending (map hex others) → sets (set last (q + 16) s) (q + 17) (rowText others) ≡ sets out q (rowText (take (c - k) (drop (from + k) m)))
-  unfolding others hex
-  step s a =
-      let x = getD m (from + k) nan in
-      let l : last ≡ sets out q (hex x) = rw (e, f) in
-      rw (l, part-cons m from c k h g) (sym (row-next x (take (c - (k + 1)) (drop (from + (k + 1)) m)) out q s a))
-
-  pub step-more : k + 1 < c → sets (set last (q + 16) 32) (q + 17) (rowText (take (c - (k + 1)) (drop (from + (k + 1)) m))) ≡ sets out q (rowText (take (c - k) (drop (from + k) m)))
+  pub row-more : k + 1 < c
+      → rowText (take (c - k) (drop (from + k) m)) ≡ hex (getD m (from + k) nan) ++ (space ∷ rowText (take (c - (k + 1)) (drop (from + (k + 1)) m)))
   unfolding others
-  step-more n = step 32 (after-more others (omega (arith, length-others)))
+  row-more n = rw (part-cons m from c k h g) (row-next _ others space (after-more others (omega (arith, length-others))))
 
-  pub step-last : c ≤ k + 1 → sets (set last (q + 16) 10) (q + 17) (rowText (take (c - (k + 1)) (drop (from + (k + 1)) m))) ≡ sets out q (rowText (take (c - k) (drop (from + k) m)))
+  pub row-last : c ≤ k + 1
+      → rowText (take (c - k) (drop (from + k) m)) ≡ hex (getD m (from + k) nan) ++ (LF ∷ rowText (take (c - (k + 1)) (drop (from + (k + 1)) m)))
   unfolding others
-  step-last n = step 10 (after-last others (omega (arith, length-others)))
+  row-last n = rw (part-cons m from c k h g) (row-next _ others LF (after-last others (omega (arith, length-others))))
 
-pub row-done : (m : List Float) (c k : ℕ) (out : Bytes) (q : ℕ) → k ≡ c → sets out q (rowText (take (c - k) m)) ≡ out
+pub row-done : (m : List Float) (c k : ℕ) → k ≡ c → rowText (take (c - k) m) ≡ []
 unfolding rowText lineText
-row-done m c k out q e = let z : c - c ≡ 0 = omega arith in rw (e, z)
+row-done m c k e = let z : c - c ≡ 0 = omega arith in rw (e, z)
 
 pub length-row : (xs : List Float) → length (rowText xs) ≡ 17 * length xs
 unfolding rowText lineText
@@ -80,19 +77,22 @@ length-row (x ∷ xs) = length-append (hex x) (ending (map hex xs) ∷ rowText x
 
 -- ---- lines of readings
 
-pub rows-next : (r c j : ℕ) (m : List Float) (out : Bytes) (q : ℕ) → j < r → j * c + c ≤ length m
-    → sets out q (rowsText (r - j) c (drop (j * c) m))
-    ≡ sets (sets out q (rowText (take c (drop (j * c) m)))) (q + 17 * c) (rowsText (r - (j + 1)) c (drop (j * c + c) m))
-unfolding rowsText
-rows-next r c j m out q h g =
-    let z : r - j ≡ suc (r - (j + 1)) = omega arith in
-    let l : length (take c (drop (j * c) m)) ≡ c = length-take-le c (drop (j * c) m) (simp length-drop (omega arith)) in
-    rw (z, drop-drop) (sets-append (rowText (take c (drop (j * c) m))) (rowsText (r - (j + 1)) c (drop (j * c + c) m)) out q
-    ∙ rw (length-row, l))
+pub times-next : (j c : ℕ) → (j + 1) * c ≡ j * c + c
+times-next j c = rw (add-one j) (suc-mul j c)
 
-pub rows-end : (r c j : ℕ) (m : List Float) (out : Bytes) (q : ℕ) → j ≡ r → sets out q (rowsText (r - j) c m) ≡ out
+pub times-below : (j r c : ℕ) → j < r → j * c + c ≤ r * c
+times-below j r c h =
+    let g : (j + 1) * c ≤ r * c = mul-le-mul-right c (omega arith) in
+    omega (arith, times-next j c)
+
+pub rows-next : (r c j : ℕ) (m : List Float) → j < r
+    → rowsText (r - j) c (drop (j * c) m) ≡ rowText (take c (drop (j * c) m)) ++ rowsText (r - (j + 1)) c (drop ((j + 1) * c) m)
 unfolding rowsText
-rows-end r c j m out q e = let z : r - r ≡ 0 = omega arith in rw (e, z)
+rows-next r c j m h = let z : r - j ≡ suc (r - (j + 1)) = omega arith in rw (z, drop-drop, times-next j c)
+
+pub rows-end : (r c j : ℕ) (m : List Float) → j ≡ r → rowsText (r - j) c m ≡ []
+unfolding rowsText
+rows-end r c j m e = let z : r - r ≡ 0 = omega arith in rw (e, z)
 
 pub length-rows : (r c : ℕ) (xs : List Float) → r * c ≤ length xs → length (rowsText r c xs) ≡ 17 * (r * c)
 unfolding rowsText
@@ -113,30 +113,7 @@ rows-only (suc r) c xs ys h =
     let g : length (drop c xs) ≡ r * c = simp length-drop (omega arith) in
     rw (take-append-le, drop-append-le) (ap (λ (z : Bytes). rowText (take c xs) ++ z) (rows-only r c (drop c xs) ys g))
 
--- ---- the code's steps
-
-pub times-next : (j c : ℕ) → (j + 1) * c ≡ j * c + c
-times-next j c = rw (add-one j) (suc-mul j c)
-
-pub times-below : (j r c : ℕ) → j < r → j * c + c ≤ r * c
-times-below j r c h =
-    let g : (j + 1) * c ≤ r * c = mul-le-mul-right c (omega arith) in
-    omega (arith, times-next j c)
-
-pub rows-step : (r c j from : ℕ) (m : List Float) (out last : Bytes) (q res : ℕ) → j < r → r * c ≤ length m → from ≡ j * c
-    → last ≡ sets out q (rowText (take c (drop from m))) → res ≡ q + 17 * c
-    → sets last res (rowsText (r - (j + 1)) c (drop ((j + 1) * c) m)) ≡ sets out q (rowsText (r - j) c (drop (j * c) m))
-rows-step r c j from m out last q res h g f e k =
-    rw (e, k, f, times-next j c) (sym (rows-next r c j m out q h (omega (arith, times-below j r c h))))
-
--- ---- one text after the other
-
-pub then : {out o₁ o₂ : Bytes} {at a b : ℕ} {s t : Bytes} → Written out at s o₁ a → Written o₁ a t o₂ b → Written out at (s ++ t) o₂ b
-then {out} {o₁} {o₂} {at} {a} {b} {s} {t} x y =
-    record {
-      stored = rw (y .stored, x .stored, x .ends) (sym (sets-append s t out at));
-      ends = omega (arith, x .ends, y .ends, length-append s t);
-    }
+-- ---- the other lines
 
 pub refusal-is : (n : ℕ) → 0 < n → refusalText n ≡ lineText (refusedWord ∷ shown 9 ∷ shown n ∷ [])
 unfolding refusalText

@@ -1,7 +1,7 @@
 // The survey text, and what the program `split` prints of it.
 ghost use mathlib.Core.Path.{_≡_};
 ghost use mathlib.Core.List.{[]};
-ghost use Prim.Native.Nat.{_+_, _*_, _<_, _≤_};
+ghost use Prim.Native.Nat.{_*_, _≤_};
 ghost use lib.ListN.{length, take};
 ghost use lib.Ieee.{binary64};
 ghost use Rattle.method.specs.Work.{work};
@@ -10,6 +10,7 @@ ghost use Rattle.method.specs.Defaults.{defaults};
 ghost use Rattle.svd.specs.Values.{reportOf};
 ghost use Rattle.survey.specs.Print.{surveyText, split};
 ghost use Rattle.text.specs.Text.{Written};
+ghost use Rattle.text.specs.Writing.{Wrote};
 ghost use Rattle.survey.specs.Code.{surveyOf};
 ghost use Rattle.survey.specs.Found.{InRange};
 use crate::reading::Entry;
@@ -20,7 +21,6 @@ use crate::writing::put_refusal;
 use checks::settings::Settings;
 use svd::report::Report;
 
-mod numerals;
 mod reading;
 mod writing;
 
@@ -35,10 +35,10 @@ fn decomposed(m: &mut [f64], rows: usize, cols: usize) -> Report
 }
 
 // What is printed of the survey whose readings stand first in m.
-fn put_survey(out: &mut [u8; 314000], at: usize, e: Entry, m: &mut [f64]) -> usize
-    requires { ⌜ InRange e × (length (now m) ≡ 2304) × (at + 39211 ≤ 314000) ⌝ }
-    ensures { λ r. ⌜ Written (now (out .entry)) at (surveyText (surveyOf e (take (e .rows * e .cols) (now (m .entry))))) (now (out .exit)) r
-        × (r ≤ at + 39211) × (length (now (m .exit)) ≡ 2304) ⌝ }
+fn put_survey(out: &mut [u8], at: usize, e: Entry, m: &mut [f64]) -> usize
+    requires { ⌜ InRange e × (length (now m) ≡ 2304) ⌝ }
+    ensures { λ r. ⌜ Wrote (now (out .entry)) at (surveyText (surveyOf e (take (e .rows * e .cols) (now (m .entry)))))
+        (now (out .exit)) r × (length (now (m .exit)) ≡ 2304) ⌝ }
 {
     let rows = e.rows;
     let cols = e.cols;

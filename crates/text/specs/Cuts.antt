@@ -1,14 +1,14 @@
 -- Laws of fields: what stands before the first `stop`, by the position that the code finds. Assumes nothing.
 use mathlib.Core.Path.{_≡_, refl, sym, ap, _∙_}
 use mathlib.Core.Bool.{Bool, true, false}
-use mathlib.Core.Option.{Option, none, some}
-use mathlib.Core.List.{List, [], _∷_, _++_}
+use mathlib.Core.Option.{none, some}
+use mathlib.Core.List.{[], _∷_, _++_}
 use Prim.Native.Nat.{ℕ, suc, _+_, _-_, _<_, _≤_}
 use native.Mathlib.Omega.{arith}
 use borrow.Author.Tests.{le-ltb, lt-ltb, le-leb, lt-leb, eq-eqb, ne-eqb, ltb-true, ltb-false, leb-true, leb-false}
 use lib.Dec.{ltb, leb, eqb}
 use lib.ListN.{length, take, drop, length-drop}
-use lib.Seq.{drop-drop, take-all, drop-length}
+use lib.Seq.{drop-drop, take-all}
 use Rattle.bytes.specs.Bytes.{indexOf, indexAfter, slice}
 use Rattle.text.specs.Text.{Bytes, _>>=_, cut, found}
 use Rattle.text.specs.Code.{cutAt}

@@ -1,21 +1,21 @@
--- `survey::split_text` meets its contract. The loop's invariant: what is still to be printed of the surveys from i on, written at q, gives the whole; and
--- each survey has at most 48 lines and takes at most 39,211 bytes. The measure is how many surveys are left. Assumes nothing.
-use mathlib.Core.Path.{_≡_, refl, sym, ap, _∙_}
-use mathlib.Core.List.{List, [], _++_}
+-- `survey::split_text` meets its contract. The loop's invariant: whatever writes what is still to be printed of the surveys from i on, at q, has then
+-- written the whole; and each survey has at most 48 lines. The whole has room. The measure is how many surveys are left. Assumes nothing.
+use mathlib.Core.Path.{_≡_, refl, sym, _∙_}
+use mathlib.Core.List.{List, _++_}
 use Prim.Native.Nat.{ℕ, _+_, _-_, _*_, _<_, _≤_}
 use native.Mathlib.Omega.{arith}
 use borrow.Author.Needs.{needs}
-use lib.ListN.{length, getD, take, length-append}
-use lib.Seq.{sets}
+use lib.ListN.{length, getD, take}
 use lib.Ieee.{Float}
 use Rattle.survey.specs.declared.reading.Entry.{Entry}
 use Rattle.text.specs.Text.{Bytes, Written}
-use Rattle.text.specs.Digits.{sets-append}
 use Rattle.survey.specs.Print.{split, surveyText}
 use Rattle.survey.specs.Code.{surveyOf}
 use Rattle.survey.specs.Lines.{zeros}
 use Rattle.survey.specs.Found.{InRange}
 use Rattle.survey.specs.Whole.{All, left, range, turn-bad, turn-got, area, begin-bad, begin-got, done-whole, done-extra}
+use Rattle.text.specs.Writing.{Wrote, nothing, then}
+use Rattle.survey.specs.Room.{split-most}
 use Rattle.survey.proofs.split_text.Statement.{statement}
 use Rattle.survey.proofs.split_text.Tie as tie
 
@@ -26,11 +26,11 @@ record Held (text out₀ out : Bytes) (es : List Entry) (count line p : ℕ) (m 
   p-in : p ≤ length text
   line-least : 0 < line
   line-most : line ≤ 10 + 48 * i
-  q-most : q ≤ 39211 * i
   m-length : length m ≡ 2304
   all : All (take count es)
-  stored : sets out q (left text es count i line p) ≡ sets out₀ 0 (split text)
-  lengths : q + length (left text es count i line p) ≡ length (split text)
+  same : length out ≡ length out₀
+  roomy : 0 < i → length out ≡ 314000
+  goes : (o : Bytes) (r : ℕ) → Wrote out q (left text es count i line p) o r → Wrote out₀ 0 (split text) o r
 
 abbrev Inv-loop : tie.InvT-loop
 Inv-loop text out₀ es count line₀ p₀ m₀ q₀ i₀ out line p m q i = Held text out₀ out es count line p m q i
@@ -38,14 +38,17 @@ Inv-loop text out₀ es count line₀ p₀ m₀ q₀ i₀ out line p m q i = Hel
 abbrev μ-loop : tie.MeasureT-loop
 μ-loop text out₀ es count line₀ p₀ m₀ q₀ i₀ out line p m q i = count - i
 
+-- the whole was written, since it has room
+settled : (text out₀ out₁ : Bytes) (r : ℕ) → length out₀ ≡ 314000 → Wrote out₀ 0 (split text) out₁ r → Written out₀ 0 (split text) out₁ r × (r ≤ 314000)
+settled text out₀ out₁ r n w =
+    let most = split-most text in
+    let f = w .fits (omega arith) in
+    (f, omega (arith, f .ends))
+
 -- what is written at the end of what was, is the whole
 finished : (text out₀ out out₁ : Bytes) (es : List Entry) (count line p : ℕ) (m : List Float) (q i r : ℕ) (s : Bytes) → Held text out₀ out es count line p m q i
-    → left text es count i line p ≡ s → Written out q s out₁ r → Written out₀ 0 (split text) out₁ r
-finished text out₀ out out₁ es count line p m q i r s h e w =
-    record {
-      stored = w .stored ∙ ap (λ (z : Bytes). sets out q z) (sym e) ∙ h .stored;
-      ends = omega (arith, w .ends, ap (λ (z : Bytes). length z) e, h .lengths);
-    }
+    → length out ≡ 314000 → left text es count i line p ≡ s → Wrote out q s out₁ r → Written out₀ 0 (split text) out₁ r × (r ≤ 314000)
+finished text out₀ out out₁ es count line p m q i r s h n e w = settled text out₀ out₁ r (sym (h .same) ∙ n) (h .goes out₁ r (rw e w))
 
 -- the entry at hand is in range
 ranged : (c : tie.In-loop Inv-loop μ-loop) → InRange (getD (c .before .before .before .before .contents .result .es) (c .before .loop .i) zeros)
@@ -79,7 +82,7 @@ returns c =
     let st = at-contents .before .before in
     let h = at-contents .contents in
     let w = c .put-refusal .ensures in
-    (rw (begin-bad (st .args .text .now) (h .result) (h .ensures .0) (c .before .before .if1 .taken)) (w .0), omega (arith, w .1))
+    settled _ _ _ _ (c .before .put-refusal-arg .given .0 .1) (rw (begin-bad (st .args .text .now) (h .result) (h .ensures .0) (c .before .before .if1 .taken)) w)
 
 loop-holds : tie.Need-loop-holds Inv-loop μ-loop
 loop-holds c =
@@ -93,11 +96,11 @@ loop-holds c =
       p-in = en .1;
       line-least = en .3;
       line-most = omega arith;
-      q-most = omega arith;
       m-length = refl;
       all = g .0;
-      stored = rw (g .1);
-      lengths = rw (g .1) (omega arith);
+      same = refl;
+      roomy = λ h. absurd (omega arith);
+      goes = λ o r w. rw (g .1) at w;
     }
 
 body-requires : tie.Need-body-requires Inv-loop μ-loop
@@ -108,10 +111,7 @@ body-requires c κs =
 
 put-survey-requires : tie.Need-put-survey-requires Inv-loop μ-loop
 put-survey-requires c κs =
-    let at-loop-test = c .before .before .before .before .before .before in
-    let lp = at-loop-test .before in
-    let lp = lp .loop in
-    (ranged (c .before .before .before .before .before .before), turned (c .before .before) .1, omega (arith, lp .inv .q-most, lp .inv .count-most, at-loop-test .loop-test .taken))
+    (ranged (c .before .before .before .before .before .before), turned (c .before .before) .1)
 
 loop-again : tie.Need-loop-again Inv-loop μ-loop
 loop-again c =
@@ -125,9 +125,6 @@ loop-again c =
     let tn = turned (c .before .before .before .before) in
     let by = at-body .body in
     let ps = c .before .put-survey .ensures in
-    let e = getD (r .es) (lp .i) zeros in
-    let s = surveyText (surveyOf e (take (e .rows * e .cols) (by .last .1 .1 .1 .1 .1 .0))) in
-    let l = left (st .args .text .now) (r .es) (r .count) (lp .i + 1) (by .result .line) (by .result .at) in
     record {
       i-most = omega (arith, at-loop-test .loop-test .taken);
       count-most = lp .inv .count-most;
@@ -135,21 +132,15 @@ loop-again c =
       p-in = by .ensures .1;
       line-least = omega (arith, by .ensures .2, lp .inv .line-least);
       line-most = omega (arith, by .ensures .3, lp .inv .line-most, ranged (c .before .before .before .before .before .before .before .before) .rows-most);
-      q-most = omega (arith, ps .1, lp .inv .q-most);
-      m-length = ps .2;
+      m-length = ps .1;
       all = lp .inv .all;
-      stored = rw (ps .0 .stored, ps .0 .ends) (sym (sets-append s l (lp .out) (lp .q)) ∙ ap (λ (z : Bytes). sets (lp .out) (lp .q) z) (sym (tn .0)) ∙ lp .inv .stored);
-      lengths = omega (arith, ps .0 .ends, length-append s l, ap (λ (z : Bytes). length z) (tn .0), lp .inv .lengths);
+      same = ps .0 .kept ∙ lp .inv .same;
+      roomy = λ h. ps .0 .kept ∙ c .before .before .before .put-survey-arg .given .0 .1;
+      goes = λ o z w. lp .inv .goes o z (rw (tn .0) (then (ps .0) w));
     }
 
 put-refusal-requires-2 : tie.Need-put-refusal-requires-2 Inv-loop μ-loop
-put-refusal-requires-2 c κs =
-    let lp = c .before .before .before .before .before .before .loop in
-    let en = c .before .before .body .ensures in (
-      omega (arith, en .2, lp .inv .line-least),
-      omega (arith, en .3, ranged (c .before .before .before .before .before) .rows-most, lp .inv .line-most, lp .inv .i-most, lp .inv .count-most),
-      omega (arith, lp .inv .q-most, lp .inv .i-most, lp .inv .count-most),
-    )
+put-refusal-requires-2 c κs = omega (arith, c .before .before .body .ensures .2, c .before .before .before .before .before .before .loop .inv .line-least)
 
 returns-2 : tie.Need-returns-2 Inv-loop μ-loop
 returns-2 c =
@@ -163,12 +154,10 @@ returns-2 c =
     let w = c .put-refusal2 .ensures in
     let e = turn-bad (st .args .text .now) (r .es) (r .count) (lp .i) (lp .line) (lp .p) (at-loop-test .loop-test .taken) (omega arith) (lp .inv .all)
     (lp .m) (by .last .1 .1 .1 .1 .1 .0) (by .result) (lp .inv .m-length) (getD (r .es) (lp .i) zeros) refl (by .ensures .0) (c .before .before .if2 .left) in
-    (finished _ _ _ _ _ _ _ _ _ _ _ _ _ (lp .inv) e (w .0), omega (arith, w .1, lp .inv .q-most, lp .inv .i-most, lp .inv .count-most))
+    finished _ _ _ _ _ _ _ _ _ _ _ _ _ (lp .inv) (c .before .put-refusal-arg2 .given .0 .1) e w
 
 put-refusal-requires-3 : tie.Need-put-refusal-requires-3 Inv-loop μ-loop
-put-refusal-requires-3 c κs =
-    let lp = c .before .before .before .loop in
-    (lp .inv .line-least, omega (arith, lp .inv .line-most, lp .inv .i-most, lp .inv .count-most), omega (arith, lp .inv .q-most, lp .inv .i-most, lp .inv .count-most))
+put-refusal-requires-3 c κs = c .before .before .before .loop .inv .line-least
 
 returns-3 : tie.Need-returns-3 Inv-loop μ-loop
 returns-3 c =
@@ -179,7 +168,7 @@ returns-3 c =
     let r = at-contents .contents .result in
     let w = c .put-refusal3 .ensures in
     let e = done-extra (st .args .text .now) (r .es) (r .count) (lp .i) (lp .line) (lp .p) (omega arith) (omega arith) (c .before .before .if3 .taken) in
-    (finished _ _ _ _ _ _ _ _ _ _ _ _ _ (lp .inv) e (w .0), omega (arith, w .1, lp .inv .q-most, lp .inv .i-most, lp .inv .count-most))
+    finished _ _ _ _ _ _ _ _ _ _ _ _ _ (lp .inv) (c .before .put-refusal-arg3 .given .0 .1) e w
 
 returns-4 : tie.Need-returns-4 Inv-loop μ-loop
 returns-4 c =
@@ -188,8 +177,7 @@ returns-4 c =
     let lp = c .before .before .loop in
     let r = at-contents .contents .result in
     let e = done-whole (st .args .text .now) (r .es) (r .count) (lp .i) (lp .line) (lp .p) (omega arith) (omega arith) (omega arith) in
-    let w : Written (lp .out) (lp .q) [] (lp .out) (lp .q) = record { stored = refl; ends = omega arith } in
-    (finished _ _ _ _ _ _ _ _ _ _ _ _ _ (lp .inv) e w, omega (arith, lp .inv .q-most, lp .inv .i-most, lp .inv .count-most))
+    finished _ _ _ _ _ _ _ _ _ _ _ _ _ (lp .inv) (lp .inv .roomy (omega arith)) e (nothing (lp .out) (lp .q))
 
 pub split-text-spec : {M : Type 1} → statement M
 split-text-spec =

@@ -1,20 +1,20 @@
 -- `survey::writing::put_refusal` meets its contract: the fields one after the other. Assumes nothing.
-use native.Mathlib.Omega.{arith}
 use borrow.Author.Needs.{needs}
 use Rattle.text.specs.Text.{ending, lineText}
-use Rattle.survey.specs.Writing.{then, refusal-is}
+use Rattle.text.specs.Writing.{wrote, then}
+use Rattle.survey.specs.Writing.{refusal-is}
 use Rattle.survey.proofs.writing.put_refusal.Statement.{statement}
 use Rattle.survey.proofs.writing.put_refusal.Tie as tie
 
 returns : tie.Need-returns
 unfolding lineText ending
 returns c =
-    let w = c .before .before .before .before .before .before .before .put-bytes .ensures in
-    let n = c .before .before .before .before .before .put-field .ensures in
-    let p = c .before .before .before .put-field2 .ensures in
-    let e = c .put-bytes2 .ensures in
-    let st = c .before .before .before .before .before .before .before .before .before .before in
-    (rw (refusal-is (st .args .n) (st .pre .0)) (then w (then (n .0) (then (p .0) e))), omega (arith, w .ends, n .1, p .1, e .ends))
+    let word = wrote _ _ _ _ _ (c .before .before .before .before .before .before .before .before .before .before .before .before .before .before .before .put .ensures) in
+    let number = wrote _ _ _ _ _ (c .before .before .before .before .before .before .before .before .before .before .before .put-field .ensures) in
+    let line = wrote _ _ _ _ _ (c .before .before .before .before .before .before .before .put-field2 .ensures) in
+    let end = wrote _ _ _ _ _ (c .before .before .put2 .ensures) in
+    let at-start = c .before .before .before .before .before .before .before .before .before .before .before .before .before .before .before .before .before .before .before in
+    rw (refusal-is (at-start .args .n) (at-start .pre)) (then word (then number (then line end)))
 
 pub put-refusal-spec : {M : Type 1} → statement M
 put-refusal-spec =
@@ -26,4 +26,5 @@ put-refusal-spec =
     (λ c κs. search needs)
     (λ c. search needs)
     (λ c κs. search needs)
+    (λ c. search needs)
     returns)

@@ -1,56 +1,60 @@
--- `survey::writing::put_row` meets its contract: the readings still to write give the whole line; the measure is how many are left. Assumes nothing.
-use mathlib.Core.Path.{_≡_, sym, _∙_}
-use Prim.Native.Nat.{_+_, _-_, _*_, _≤_}
+-- `survey::writing::put_row` meets its contract: whatever writes the readings that are left, has then written the whole line; the measure is how many are left. Assumes nothing.
+use mathlib.Core.Path.{_≡_, refl, _∙_}
+use Prim.Native.Nat.{ℕ, _+_, _-_, _≤_}
 use native.Mathlib.Omega.{arith}
 use borrow.Author.Needs.{needs}
-use lib.Seq.{sets}
-use lib.ListN.{drop, take}
-use Rattle.survey.specs.Writing.{step-more, step-last, row-done}
+use lib.ListN.{length, drop, take}
+use Rattle.text.specs.Text.{Bytes}
+use Rattle.text.specs.Writing.{Wrote, wrote, nothing, then}
 use Rattle.survey.specs.Print.{rowText}
+use Rattle.survey.specs.Writing.{hex-wrote, row-more, row-last, row-done}
 use Rattle.survey.proofs.writing.put_row.Statement.{statement}
 use Rattle.survey.proofs.writing.put_row.Tie as tie
 
 abbrev Inv-loop : tie.InvT-loop
-Inv-loop out₀ at m from c q₀ k₀ out q k = (k ≤ c) × (q ≡ at + 17 * k) × (sets out q (rowText (take (c - k) (drop (from + k) m))) ≡ sets out₀ at (rowText (take c (drop from m))))
+Inv-loop out₀ at m from c q₀ k₀ t10 t11 out q k =
+    (k ≤ c) × (length out ≡ length out₀)
+    × ((o : Bytes) (r : ℕ) → Wrote out q (rowText (take (c - k) (drop (from + k) m))) o r → Wrote out₀ at (rowText (take c (drop from m))) o r)
 
 abbrev μ-loop : tie.MeasureT-loop
-μ-loop out₀ at m from c q₀ k₀ out q k = c - k
+μ-loop out₀ at m from c q₀ k₀ t10 t11 out q k = c - k
 
 loop-holds : tie.Need-loop-holds Inv-loop μ-loop
 loop-holds c =
-    let ar = c .before .args in
+    let ar = c .before .before .args in
     let y : ar .c - 0 ≡ ar .c = omega arith in
     let z : ar .from + 0 ≡ ar .from = omega arith in
-    (omega arith, omega arith, rw (y, z))
+    (omega arith, refl, λ o r w. rw (y, z) at w)
 
 loop-again : tie.Need-loop-again Inv-loop μ-loop
 loop-again c =
-    let at-loop-test = c .before .before .before .before .before in
-    let lp = at-loop-test .before in
-    let st = lp .before .before in
-    let ar = st .args in
-    let lp = lp .loop in
-    let pd = c .before .put-digits .ensures in
-    let po = c .before .before .to-bits .ensures in
-    (omega arith, omega arith, step-more _ _ _ _ _ _ _ _ (at-loop-test .loop-test .taken) (st .pre .0) pd po (c .if1 .taken) ∙ lp .inv .2)
+    let at-hex = c .before .before .before .before .before .before .before .before in
+    let at-loop = c .before .before .before .before .before .before .before .before .before .before .before .before .before in
+    let at-start = at-loop .before .before .before in
+    let ar = at-start .args in
+    let digits = hex-wrote _ _ _ _ _ _ (at-hex .before .to-bits .ensures) (at-hex .put-hex .ensures) in
+    let end = wrote _ _ _ _ _ (c .before .before .put .ensures) in
+    let more = row-more (ar .m .now) (ar .from) (ar .c) (at-loop .loop .k) (c .before .before .before .before .before .before .before .before .before .before .before .before .loop-test .taken) (at-start .pre) (c .before .before .before .before .before .if1 .taken) in
+    (omega arith, end .kept ∙ digits .kept ∙ at-loop .loop .inv .1, λ o r w. at-loop .loop .inv .2 o r (rw more (then digits (then end w))))
 
 loop-again-2 : tie.Need-loop-again-2 Inv-loop μ-loop
 loop-again-2 c =
-    let at-loop-test = c .before .before .before .before .before in
-    let lp = at-loop-test .before in
-    let st = lp .before .before in
-    let ar = st .args in
-    let lp = lp .loop in
-    let pd = c .before .put-digits .ensures in
-    let po = c .before .before .to-bits .ensures in
-    (omega arith, omega arith, step-last _ _ _ _ _ _ _ _ (at-loop-test .loop-test .taken) (st .pre .0) pd po (c .if1 .left) ∙ lp .inv .2)
+    let at-hex = c .before .before .before .before .before .before .before .before in
+    let at-loop = c .before .before .before .before .before .before .before .before .before .before .before .before .before in
+    let at-start = at-loop .before .before .before in
+    let ar = at-start .args in
+    let digits = hex-wrote _ _ _ _ _ _ (at-hex .before .to-bits .ensures) (at-hex .put-hex .ensures) in
+    let end = wrote _ _ _ _ _ (c .before .before .put2 .ensures) in
+    let more = row-last (ar .m .now) (ar .from) (ar .c) (at-loop .loop .k) (c .before .before .before .before .before .before .before .before .before .before .before .before .loop-test .taken) (at-start .pre) (c .before .before .before .before .before .if1 .left) in
+    (omega arith, end .kept ∙ digits .kept ∙ at-loop .loop .inv .1, λ o r w. at-loop .loop .inv .2 o r (rw more (then digits (then end w))))
 
 returns : tie.Need-returns Inv-loop μ-loop
 returns c =
-    let lp = c .before .loop in
-    let ar = c .before .before .before .args in
-    let e : lp .k ≡ ar .c = omega arith in
-    (sym (row-done (drop (ar .from + lp .k) (ar .m .now)) (ar .c) (lp .k) (lp .out) (lp .q) e) ∙ lp .inv .2, omega arith)
+    let at-loop = c .before .loop in
+    let ar = c .before .before .before .before .args in
+    let e : at-loop .k ≡ ar .c = omega arith in
+    let d = row-done (drop (ar .from + at-loop .k) (ar .m .now)) (ar .c) (at-loop .k) e in
+    at-loop .inv .2 _ _ (rw d (nothing (at-loop .out) (at-loop .q)))
 
 pub put-row-spec : {M : Type 1} → statement M
 put-row-spec =
@@ -66,11 +70,12 @@ put-row-spec =
     (λ c κs. search needs)
     (λ c. search needs)
     (λ c. search needs)
-    (λ c. search needs)
-    (λ c. search needs)
+    (λ c κs. search needs)
     (λ c. search needs)
     loop-again
     (λ c. search needs)
+    (λ c κs. search needs)
     (λ c. search needs)
     loop-again-2
+    (λ c. search needs)
     returns)

@@ -1,10 +1,7 @@
 -- `text::fields::find` meets its contract: inside the slice the kit's search up to its end, and else the end. Assumes nothing.
-use mathlib.Core.Path.{_≡_, sym, ap, _∙_}
-use Prim.Native.Nat.{ℕ, _+_}
+use mathlib.Core.Path.{sym, _∙_}
 use native.Mathlib.Omega.{arith}
 use borrow.Author.Needs.{needs}
-use Rattle.bytes.specs.Bytes.{indexOf}
-use Rattle.text.specs.Text.{Bytes}
 use Rattle.text.specs.Cuts.{found-inside, found-outside, slice-all}
 use Rattle.text.proofs.fields.find.Statement.{statement}
 use Rattle.text.proofs.fields.find.Tie as tie

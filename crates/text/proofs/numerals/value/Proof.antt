@@ -1,14 +1,13 @@
 -- `text::numerals::value` meets its contract: the digits read so far have the value v; the measure is how many are left. Assumes nothing.
-use mathlib.Core.Path.{_≡_, refl, sym, ap, _∙_}
+use mathlib.Core.Path.{_≡_, refl, sym, _∙_}
 use Prim.Native.Nat.{_+_, _-_, _*_, _^_, _<_, _≤_}
 use native.Mathlib.Omega.{arith}
 use borrow.Author.Needs.{needs}
 use borrow.Author.Tests.{leb-true, leb-false}
-use lib.ListN.{drop, length, getD}
-use Rattle.text.specs.Code.{numberOf}
+use lib.ListN.{drop, length}
 use Rattle.text.specs.Digits.{value-next}
 use Rattle.text.specs.Numerals.{numeral-unbased, numeral-stop, numeral-over, numeral-end}
-use Rattle.text.specs.Text.{worth, value as valueOf}
+use Rattle.text.specs.Text.{value as valueOf}
 use Rattle.text.proofs.numerals.value.Statement.{statement}
 use Rattle.text.proofs.numerals.value.Tie as tie
 

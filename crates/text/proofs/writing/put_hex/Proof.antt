@@ -1,5 +1,5 @@
 -- `text::writing::put_hex` meets its contract: the digits stored where there is room, and nothing where there is none. Assumes nothing.
-use mathlib.Core.Path.{_≡_, sym, _∙_}
+use mathlib.Core.Path.{sym, _∙_}
 use Prim.Native.Nat.{_+_, _≤_}
 use native.Mathlib.Omega.{arith}
 use borrow.Author.Needs.{needs}

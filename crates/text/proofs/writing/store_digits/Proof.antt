@@ -1,6 +1,6 @@
 -- `text::writing::store_digits` meets its contract: the j digits still to write give the whole; the measure is j. Assumes nothing.
 use mathlib.Core.Path.{_≡_, refl, sym, _∙_}
-use Prim.Native.Nat.{_-_, _<_, _≤_}
+use Prim.Native.Nat.{_<_, _≤_}
 use native.Mathlib.Nat.{mod-lt}
 use native.Mathlib.Omega.{arith}
 use borrow.Author.Needs.{needs}
