@@ -69,11 +69,11 @@ reported w =
     record {
       number = 0;
       place = 0;
-      word = wordOf (w .range);
-      passes = w .passes;
-      sweeps = w .sweeps;
-      drops = w .drops;
-      range = w .range;
+      word = wordOf (w .tally .range);
+      passes = w .tally .passes;
+      sweeps = w .tally .sweeps;
+      drops = w .tally .drops;
+      range = w .tally .range;
     }
 
 -- the bidiagonal form, and then the walk

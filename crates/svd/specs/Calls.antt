@@ -9,7 +9,7 @@ use lib.Ieee.{Float, binary64}
 use Rattle.method.specs.Floats.{pick}
 use Rattle.method.specs.Work.{Work, work, packed}
 use Rattle.method.specs.Lengths.{SameLengths, outcome-lengths}
-use Rattle.method.specs.Walk.{Walk as Counts, State, stands}
+use Rattle.method.specs.Walk.{Walk, State, stands}
 use Rattle.method.specs.Settings.{Settings}
 use Rattle.method.specs.Checks.{Refusal, refusalOf}
 use Rattle.method.specs.Checks.Table.{Fit, fit}
@@ -34,7 +34,7 @@ module _ (kept : Bool) (rows cols : ℕ) (s : Settings) (w : Work) where
 
   -- an accepted call reports the walk
   pub accepted-call :
-      (r : Refusal) (report : Report) (last : Counts) (w′ : Work) →
+      (r : Refusal) (report : Report) (last : Walk) (w′ : Work) →
       r ≡ refusalOf kept rows cols s w →
       r .number ≡ 0 →
       report ≡ reported last →

@@ -10,7 +10,7 @@ use lib.Ieee.{Float, binary64}
 use Rattle.method.specs.Work.{Work, Shape as Sizes}
 use Rattle.method.specs.Lengths.{SameLengths, onward, swept-lengths}
 use Rattle.method.specs.Chase.{negligible, swept}
-use Rattle.method.specs.Walk.{Walk as Counts, Rules, State, stands, begun, run, afterDrop, afterSweep}
+use Rattle.method.specs.Walk.{Walk as Record, Rules, State, stands, begun, run, afterDrop, afterSweep}
 use Rattle.method.specs.Walk.Counts.{walked-same, enough-most}
 use Rattle.method.specs.Walk.Run.{Going, narrow, spent}
 use Rattle.method.specs.Walk.Loop.{Room, Made, made-none, made-drop, made-sweep, made-moved, made-room, made-all, made-end}
@@ -19,14 +19,14 @@ use Rattle.method.specs.Outcome.{rulesOf, card, isUpper, walkedFrom}
 use Rattle.method.specs.Settings.{Settings}
 use Rattle.method.specs.Bidiagonal.{bidiagonal}
 use lib.Dec.{lit<}
-use Rattle.svd.specs.Values.{counts, corner, Lending, lending-kept, Inside, Block}
+use Rattle.svd.specs.Values.{walkOf, corner, Lending, lending-kept, Inside, Block}
 use Rattle.svd.specs.declared.primitives.Walk.{Walk}
 
--- a record from which n passes may be asked: its range lies in the table, its places are those of the range, and its counts have room
+-- a record from which n passes may be asked: its range lies in the table, its places are those of the range, and its walkOf have room
 pub record Standing (z : Sizes) (upper : Bool) (n : ℕ) (w : Walk) : Type 0 where
   pub inside : Inside z (w .range)
   pub placed : Placed upper (z .stride) (corner w)
-  pub room : Room n (counts w)
+  pub room : Room n (walkOf w)
 
 -- ---- the places of a record of range 2 or more, by its interior
 
@@ -54,14 +54,14 @@ pub record Inv (z : Sizes) (upper : Bool) (n : ℕ) (s : Settings) (first : Walk
   pub same : SameLengths start now
   pub within : made ≤ n
   pub placed : Placed upper (z .stride) (corner w)
-  pub by : Made (rulesOf binary64 z upper (s .tolerance) (s .absolute)) (s .limit) (s .credit) (stands (counts first) start) made (stands (counts w) now)
+  pub by : Made (rulesOf binary64 z upper (s .tolerance) (s .absolute)) (s .limit) (s .credit) (stands (walkOf first) start) made (stands (walkOf w) now)
 
 pub inv-start : (z : Sizes) (upper : Bool) (n : ℕ) (s : Settings) (first : Walk) (d : Work) → Standing z upper n first → Inv z upper n s first d d first 0
 inv-start z upper n s first d q =
     record { same = record { matrix = refl; u = refl; v = refl }; within = zero-le; placed = q .placed; by = made-none _ _ _ _ }
 
 module _ {z : Sizes} {upper : Bool} {n : ℕ} {s : Settings} {first : Walk} {start now : Work} {w : Walk} {made : ℕ} (q : Standing z upper n first) (i : Inv z upper n s first start now w made) where
-  pub inv-room : made < n → Room 1 (counts w)
+  pub inv-room : made < n → Room 1 (walkOf w)
   inv-room h = made-room (i .by) (q .room) h
 
   -- the range stays in the table
@@ -74,7 +74,7 @@ module _ {z : Sizes} {upper : Bool} {n : ℕ} {s : Settings} {first : Walk} {sta
     at : Here z upper w
     at = here z upper w (i .placed) wide
 
-    goes : Going (s .limit) (counts w)
+    goes : Going (s .limit) (walkOf w)
     goes = record { wide = wide; below = below }
 
     k-is : w .range - 2 ≡ w .inter
@@ -83,7 +83,7 @@ module _ {z : Sizes} {upper : Bool} {n : ℕ} {s : Settings} {first : Walk} {sta
     -- one turn by each arm
     pub inv-drop :
         {w′ : Walk} →
-        counts w′ ≡ afterDrop (s .credit) (counts w) →
+        walkOf w′ ≡ afterDrop (s .credit) (walkOf w) →
         corner w′ ≡ cornerDropped (z .stride) (s .credit) (counted (corner w)) →
         negligible binary64 (s .tolerance) (s .absolute) (z .stride) upper (w .inter) (now .matrix) ≡ true →
         Inv z upper n s first start now w′ (made + 1)
@@ -97,7 +97,7 @@ module _ {z : Sizes} {upper : Bool} {n : ℕ} {s : Settings} {first : Walk} {sta
 
     pub inv-sweep :
         {w′ : Walk} {now′ : Work} →
-        counts w′ ≡ afterSweep (counts w) →
+        walkOf w′ ≡ afterSweep (walkOf w) →
         corner w′ ≡ counted (corner w) →
         now′ ≡ swept binary64 z upper (w .inter) now →
         negligible binary64 (s .tolerance) (s .absolute) (z .stride) upper (w .inter) (now .matrix) ≡ false →
@@ -150,16 +150,16 @@ module _ {z : Sizes} {upper : Bool} {n : ℕ} {s : Settings} {first : Walk} {sta
 
 module _ {z : Sizes} {upper : Bool} {n : ℕ} {s : Settings} {first : Walk} {start now : Work} {w : Walk} {made : ℕ} (i : Inv z upper n s first start now w made) where
   abbrev asked : State Work
-  asked = run (rulesOf binary64 z upper (s .tolerance) (s .absolute)) (s .limit) (s .credit) n (stands (counts first) start)
+  asked = run (rulesOf binary64 z upper (s .tolerance) (s .absolute)) (s .limit) (s .credit) n (stands (walkOf first) start)
 
-  pub inv-all : n ≤ made → stands (counts w) now ≡ asked
+  pub inv-all : n ≤ made → stands (walkOf w) now ≡ asked
   inv-all h = made-all (i .by) (i .within) h
 
-  pub inv-narrow : w .range ≤ 1 → stands (counts w) now ≡ asked
-  inv-narrow h = made-end (i .by) (i .within) (narrow (s .limit) (counts w) h)
+  pub inv-narrow : w .range ≤ 1 → stands (walkOf w) now ≡ asked
+  inv-narrow h = made-end (i .by) (i .within) (narrow (s .limit) (walkOf w) h)
 
-  pub inv-spent : s .limit ≤ w .counter → stands (counts w) now ≡ asked
-  inv-spent h = made-end (i .by) (i .within) (spent (s .limit) (counts w) h)
+  pub inv-spent : s .limit ≤ w .counter → stands (walkOf w) now ≡ asked
+  inv-spent h = made-end (i .by) (i .within) (spent (s .limit) (walkOf w) h)
 
 -- ---- the whole walk
 
@@ -167,19 +167,19 @@ module _ {z : Sizes} {upper : Bool} {n : ℕ} {s : Settings} {first : Walk} {sta
 pub first-standing :
     (z : Sizes) (upper : Bool) (c : ℕ) (first : Walk) →
     Inside z c →
-    counts first ≡ begun c →
+    walkOf first ≡ begun c →
     corner first ≡ cornerStart upper (z .stride) c →
     Standing z upper 146000 first
 first-standing z upper c first h ec eo =
     record {
-      inside = rw (ap (λ (k : Counts). k .range) ec) h;
+      inside = rw (ap (λ (k : Record). k .tally .range) ec) h;
       placed = rw eo (beginPlaced upper (z .stride) c);
       room = rw ec (record { counter = lit< tt; passes = lit< tt; sweeps = lit< tt; drops = lit< tt });
     }
 
 -- the bidiagonal form and then 146,000 passes at most are the definition's whole run
 pub decomposed :
-    (z : Sizes) (s : Settings) (w w₁ w₂ : Work) (c : ℕ) (first last : Counts) →
+    (z : Sizes) (s : Settings) (w w₁ w₂ : Work) (c : ℕ) (first last : Record) →
     c ≡ card (z .rows) (z .cols) →
     c ≤ 48 →
     s .limit ≤ 100000 →

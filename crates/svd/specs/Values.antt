@@ -9,7 +9,7 @@ use Rattle.method.specs.Reflection.{Reflection}
 use Rattle.method.specs.Bidiagonal.{columnReflection, headed}
 use Rattle.method.specs.Work.{Work, Shape as Sizes}
 use Rattle.method.specs.Lengths.{SameLengths}
-use Rattle.method.specs.Walk.{Walk as Counts}
+use Rattle.method.specs.Walk as Walks
 use Rattle.method.specs.Positions.{Corner}
 use Rattle.method.specs.Outcome as Outcome
 use Rattle.svd.specs.declared.givens.Rotation.{Rotation}
@@ -31,9 +31,9 @@ reflection entries vector tau = record { entries = entries; vector = vector; tau
 abbrev pub sizes : Shape → Sizes
 sizes z = record { rows = z .rows; cols = z .cols; stride = z .stride; urows = z .urows; vrows = z .vrows }
 
--- the five counts of a walk's record
-abbrev pub counts : Walk → Counts
-counts w = record { range = w .range; counter = w .counter; passes = w .passes; sweeps = w .sweeps; drops = w .drops }
+-- the walk's record
+abbrev pub walkOf : Walk → Walks.Walk
+walkOf w = record { tally = record { range = w .range; passes = w .passes; sweeps = w .sweeps; drops = w .drops }; counter = w .counter }
 
 -- the six counters that the drop helper of document 004 keeps
 abbrev pub corner : Walk → Corner

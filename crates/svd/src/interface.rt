@@ -15,7 +15,7 @@ ghost use Rattle.method.specs.Work.{work};
 ghost use Rattle.method.specs.Walk.{stands};
 ghost use Rattle.method.specs.Outcome.{card, outcomeOf, walkedFrom, plainOutcome, fullOutcome};
 ghost use Rattle.checks.specs.Values.{settingsOf};
-ghost use Rattle.svd.specs.Values.{sizes, counts, reportOf, Lending, Inside};
+ghost use Rattle.svd.specs.Values.{sizes, walkOf, reportOf, Lending, Inside};
 
 fn smaller_size(rows: usize, cols: usize) -> usize
     requires { ⌜ (1 ≤ rows) × (1 ≤ cols) ⌝ }
@@ -28,7 +28,7 @@ fn smaller_size(rows: usize, cols: usize) -> usize
 fn decompose(b: &mut [f64], u: &mut [f64], v: &mut [f64], z: Shape, s: Settings) -> Walk
     requires { ⌜ Inside (sizes z) 1 × (s .limit ≤ 100000) × (s .credit ≤ 1000)
         × Lending (sizes z) (work (now b) (now u) (now v)) ⌝ }
-    ensures { λ r. ⌜ stands (counts r) (work (now (b .exit)) (now (u .exit)) (now (v .exit))) ≡
+    ensures { λ r. ⌜ stands (walkOf r) (work (now (b .exit)) (now (u .exit)) (now (v .exit))) ≡
         walkedFrom binary64 (sizes z) (z .rows) (z .cols) (settingsOf s)
         (work (now (b .entry)) (now (u .entry)) (now (v .entry))) ⌝ }
 {

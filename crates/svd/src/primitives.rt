@@ -7,7 +7,7 @@ ghost use Rattle.method.specs.Chase.{singular};
 ghost use Rattle.method.specs.Walk.{begun, afterDrop, afterSweep};
 ghost use Rattle.method.specs.Walk.Loop.{Room};
 ghost use Rattle.method.specs.Positions.{cornerStart, cornerDropped, counted};
-ghost use Rattle.svd.specs.Values.{counts, corner};
+ghost use Rattle.svd.specs.Values.{walkOf, corner};
 
 // The eigenvalue of M'M nearest to its last entry, for M of rows (m00, m01) and (m10, m11).
 pub(crate) fn singular(m00: f64, m01: f64, m10: f64, m11: f64) -> f64
@@ -47,7 +47,7 @@ impl Walk {
     // The record at the start, over a diagonal of `card` entries.
     pub(crate) fn new(upper: bool, card: usize, stride: usize) -> Walk
         requires { ⌜ (card ≤ 48) × (stride ≤ 64) ⌝ }
-        ensures { λ r. ⌜ (counts r ≡ begun card) × (corner r ≡ cornerStart upper stride card) ⌝ }
+        ensures { λ r. ⌜ (walkOf r ≡ begun card) × (corner r ≡ cornerStart upper stride card) ⌝ }
     {
         let k = saturating_sub(card, 2);
         let tl = k * stride + k;
@@ -80,8 +80,8 @@ impl Walk {
 
     // The record after a pass that drops.
     pub(crate) fn drop(self, stride: usize, credit: usize) -> Walk
-        requires { ⌜ (1 < self .range) × (stride ≤ 64) × Room 1 (counts self) ⌝ }
-        ensures { λ r. ⌜ (counts r ≡ afterDrop credit (counts self))
+        requires { ⌜ (1 < self .range) × (stride ≤ 64) × Room 1 (walkOf self) ⌝ }
+        ensures { λ r. ⌜ (walkOf r ≡ afterDrop credit (walkOf self))
             × (corner r ≡ cornerDropped stride credit (counted (corner self))) ⌝ }
     {
         let shift = stride + 1;
@@ -100,8 +100,8 @@ impl Walk {
 
     // The record after a pass that sweeps.
     pub(crate) fn sweep(self) -> Walk
-        requires { ⌜ Room 1 (counts self) ⌝ }
-        ensures { λ r. ⌜ (counts r ≡ afterSweep (counts self)) × (corner r ≡ counted (corner self)) ⌝ }
+        requires { ⌜ Room 1 (walkOf self) ⌝ }
+        ensures { λ r. ⌜ (walkOf r ≡ afterSweep (walkOf self)) × (corner r ≡ counted (corner self)) ⌝ }
     {
         let mut next = self;
         next.counter = self.counter + 1;

@@ -3,7 +3,7 @@ ghost use mathlib.Core.Path.{_≡_};
 ghost use Prim.Native.Nat.{_≤_, _<_};
 ghost use Rattle.method.specs.Checks.{refusal};
 ghost use Rattle.method.specs.Outcome.{refused, reported};
-ghost use Rattle.svd.specs.Values.{reportOf, counts};
+ghost use Rattle.svd.specs.Values.{reportOf, walkOf};
 use crate::primitives::Walk;
 
 // None goes with a refusal. Settled: one entry of the diagonal is left, every coupling was found
@@ -43,7 +43,7 @@ impl Report {
     }
 
     pub(crate) fn accepted(walk: Walk) -> Report
-        ensures { λ r. ⌜ reportOf r ≡ reported (counts walk) ⌝ }
+        ensures { λ r. ⌜ reportOf r ≡ reported (walkOf walk) ⌝ }
     {
         let mut word = Word::Stopped;
         if walk.range == 1 {

@@ -16,7 +16,7 @@ use Rattle.method.specs.Rotation.{Rotation, rotationOf, rowsTurned, colu
 use Rattle.method.specs.Bidiagonal.{columnMatrix, rowMatrix, columnZeroed, rowZeroed, firstZeroed, thenZeroed, placesZeroed, bidiagonal}
 use Rattle.method.specs.Chase.{along, turned, pushed, stepped, steps, swept, negligible, firstRotation}
 use Rattle.method.specs.Walk.{Walk, State, start, run, enough, walked}
-use Rattle.method.specs.Walk.Counts as Counts
+use Rattle.method.specs.Walk.Counts.{whole-walk}
 use Rattle.method.specs.Walk.Limits as Limits
 use Rattle.method.specs.Walk.Alike.{Alike, walked-alike}
 use Rattle.method.specs.Outcome.{Word, none, settled, stopped, Report, Outcome, card, isUpper, rulesOf, wordOf, reported, walkedFrom, accepted}
@@ -39,7 +39,7 @@ more-stopped range h = rw (ne-eqb range 1 (λ e. omega arith))
 
 -- ---- what every accepted run reports, over a diagonal of c entries
 
-pub record True (s : Settings) (c : ℕ) (r : Report) : Type 0 where
+pub record TrueReport (s : Settings) (c : ℕ) (r : Report) : Type 0 where
   pub number : r .number ≡ 0
   pub place : r .place ≡ 0
   pub each : r .passes ≡ r .sweeps + r .drops
@@ -68,10 +68,10 @@ module _ (f : Format) (kept : Bool) (rows cols : ℕ) (s : Settings) (w : Work) 
   abbrev ends : State Work
   ends = walkedFrom f (packed kept rows cols) rows cols s w
 
-  pub accepted-true : 1 ≤ rows → 1 ≤ cols → True s (card rows cols) (accepted f kept rows cols s w .report)
+  pub accepted-true : 1 ≤ rows → 1 ≤ cols → TrueReport s (card rows cols) (accepted f kept rows cols s w .report)
   unfolding accepted
   accepted-true h g =
-      let k = Counts.report (rulesOf f (packed kept rows cols) (isUpper rows cols) (s .tolerance) (s .absolute)) (s .limit) (s .credit) (card rows cols) (bidiagonal f (s .floor) (packed kept rows cols) (isUpper rows cols) (card rows cols) w) (card-some rows cols h g) in
+      let k = whole-walk (rulesOf f (packed kept rows cols) (isUpper rows cols) (s .tolerance) (s .absolute)) (s .limit) (s .credit) (card rows cols) (bidiagonal f (s .floor) (packed kept rows cols) (isUpper rows cols) (card rows cols) w) (card-some rows cols h g) in
       record {
         number = refl;
         place = refl;
@@ -80,17 +80,17 @@ module _ (f : Format) (kept : Bool) (rows cols : ℕ) (s : Settings) (w : Work) 
         range = k .range;
         few = k .few;
         none = λ e. k .none (omega (arith, e));
-        settled = λ e. one-settled (ends .walk .range) e;
-        stopped = λ m. more-stopped (ends .walk .range) m;
+        settled = λ e. one-settled (ends .walk .tally .range) e;
+        stopped = λ m. more-stopped (ends .walk .tally .range) m;
       }
 
   -- the run has ended by itself: one is left, or the counter is at the limit
-  pub accepted-ended : 1 ≤ rows → 1 ≤ cols → (ends .walk .range ≡ 1) ⊎ (s .limit ≤ ends .walk .counter)
+  pub accepted-ended : 1 ≤ rows → 1 ≤ cols → (ends .walk .tally .range ≡ 1) ⊎ (s .limit ≤ ends .walk .counter)
   accepted-ended h g =
-      let k = Counts.report (rulesOf f (packed kept rows cols) (isUpper rows cols) (s .tolerance) (s .absolute)) (s .limit) (s .credit) (card rows cols) (bidiagonal f (s .floor) (packed kept rows cols) (isUpper rows cols) (card rows cols) w) (card-some rows cols h g) in
+      let k = whole-walk (rulesOf f (packed kept rows cols) (isUpper rows cols) (s .tolerance) (s .absolute)) (s .limit) (s .credit) (card rows cols) (bidiagonal f (s .floor) (packed kept rows cols) (isUpper rows cols) (card rows cols) w) (card-some rows cols h g) in
       go (k .end) (k .range .0)
     where
-      go : (ends .walk .range ≤ 1) ⊎ (s .limit ≤ ends .walk .counter) → 1 ≤ ends .walk .range → (ends .walk .range ≡ 1) ⊎ (s .limit ≤ ends .walk .counter)
+      go : (ends .walk .tally .range ≤ 1) ⊎ (s .limit ≤ ends .walk .counter) → 1 ≤ ends .walk .tally .range → (ends .walk .tally .range ≡ 1) ⊎ (s .limit ≤ ends .walk .counter)
       go (inl l) m = inl (omega arith)
       go (inr l) m = inr l
 

@@ -13,19 +13,19 @@ use Rattle.method.specs.Walk.Run.{Going, going-true, true-going, narrow,
 -- the sums of n passes fit the machine's numbers
 pub record Room (n : ℕ) (w : Walk) : Type 0 where
   pub counter : w .counter + n < 2 ^ 32
-  pub passes : w .passes + n < 2 ^ 32
-  pub sweeps : w .sweeps + n < 2 ^ 32
-  pub drops : w .drops + n < 2 ^ 32
+  pub passes : w .tally .passes + n < 2 ^ 32
+  pub sweeps : w .tally .sweeps + n < 2 ^ 32
+  pub drops : w .tally .drops + n < 2 ^ 32
 
 -- ---- a loop with a budget, from any state: k passes were made, or the walk was at its end before
 
 -- how far k passes can move a record
 pub record Moved (k : ℕ) (w₀ w : Walk) : Type 0 where
-  pub range : w .range ≤ w₀ .range
+  pub range : w .tally .range ≤ w₀ .tally .range
   pub counter : w .counter ≤ w₀ .counter + k
-  pub passes : w .passes ≤ w₀ .passes + k
-  pub sweeps : w .sweeps ≤ w₀ .sweeps + k
-  pub drops : w .drops ≤ w₀ .drops + k
+  pub passes : w .tally .passes ≤ w₀ .tally .passes + k
+  pub sweeps : w .tally .sweeps ≤ w₀ .tally .sweeps + k
+  pub drops : w .tally .drops ≤ w₀ .tally .drops + k
 
 module _ {D : Type 0} (rules : Rules D) (limit credit : ℕ) where
   pub moved : (k : ℕ) (s : State D) → Moved k (s .walk) (run rules limit credit k s .walk)
@@ -69,11 +69,11 @@ module _ {D : Type 0} {rules : Rules D} {limit credit k : ℕ} {s₀ s : State D
     after = sym (run-next rules credit limit k s₀ (rw (r .is) at (true-going limit (s .walk) g)) ∙ ap (pass rules credit) (sym (r .is)))
 
     pub made-drop :
-        rules .negligible (s .walk .range) (s .held) ≡ true →
+        rules .negligible (s .walk .tally .range) (s .held) ≡ true →
         Made rules limit credit s₀ (k + 1) (record { walk = afterDrop credit (s .walk); held = s .held })
     made-drop e = record { is = sym (pass-drop rules credit s e) ∙ after }
 
     pub made-sweep :
-        rules .negligible (s .walk .range) (s .held) ≡ false →
-        Made rules limit credit s₀ (k + 1) (record { walk = afterSweep (s .walk); held = rules .sweep (s .walk .range) (s .held) })
+        rules .negligible (s .walk .tally .range) (s .held) ≡ false →
+        Made rules limit credit s₀ (k + 1) (record { walk = afterSweep (s .walk); held = rules .sweep (s .walk .tally .range) (s .held) })
     made-sweep e = record { is = sym (pass-sweep rules credit s e) ∙ after }
