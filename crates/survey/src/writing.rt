@@ -6,7 +6,7 @@ ghost use lib.ListN.{length, take, drop};
 ghost use lib.Seq.{sets};
 ghost use Rattle.method.specs.Work.{work};
 ghost use Rattle.method.specs.Outcome.{outcomeOf};
-ghost use Rattle.svd.specs.Values.{reportOf, wordOf};
+ghost use Rattle.svd.specs.Values.{reportOf, wordIn};
 ghost use Rattle.survey.specs.Text.{digits as digitsOf, shown, space, Written};
 ghost use Rattle.survey.specs.Print.{rowText, rowsText, wordText, reportText, refusedText, outcomeText, refusalText};
 ghost use Rattle.survey.specs.Code.{Small};
@@ -66,7 +66,7 @@ fn put_field(out: &mut [u8; 314000], at: usize, n: usize) -> usize
 // A space, and the report's word.
 fn put_word(out: &mut [u8; 314000], at: usize, word: Word) -> usize
     requires { ⌜ at + 8 ≤ 314000 ⌝ }
-    ensures { λ r. ⌜ Written (now (out .entry)) at (space ∷ wordText (wordOf word)) (now (out .exit)) r × (r ≤ at + 8) ⌝ }
+    ensures { λ r. ⌜ Written (now (out .entry)) at (space ∷ wordText (wordIn word)) (now (out .exit)) r × (r ≤ at + 8) ⌝ }
 {
     match word {
         Word::None => put_bytes(out, at, b" none"),
@@ -121,10 +121,10 @@ fn put_report(out: &mut [u8; 314000], at: usize, id: u64, report: Report) -> usi
     let word = report.word;
     let a = put_decimal(out, at, id);
     let b = put_word(out, a, word);
-    let c = put_field(out, b, report.passes);
-    let d = put_field(out, c, report.sweeps);
-    let e = put_field(out, d, report.drops);
-    let f = put_field(out, e, report.range);
+    let c = put_field(out, b, report.tally.passes);
+    let d = put_field(out, c, report.tally.sweeps);
+    let e = put_field(out, d, report.tally.drops);
+    let f = put_field(out, e, report.tally.range);
     put_bytes(out, f, b"\n")
 }
 
@@ -135,8 +135,8 @@ fn put_refused(out: &mut [u8; 314000], at: usize, id: u64, report: Report) -> us
 {
     let a = put_decimal(out, at, id);
     let b = put_bytes(out, a, b" refused");
-    let c = put_field(out, b, report.number);
-    let d = put_field(out, c, report.place);
+    let c = put_field(out, b, report.refusal.number);
+    let d = put_field(out, c, report.refusal.place);
     put_bytes(out, d, b"\n")
 }
 
@@ -156,7 +156,7 @@ pub(crate) fn put_outcome(
 {
     let rows = e.rows;
     let cols = e.cols;
-    if report.number == 0 {
+    if report.refusal.number == 0 {
         let a = put_report(out, at, e.id, report);
         put_rows(out, a, m, rows, cols)
     } else {

@@ -10,13 +10,16 @@ use Rattle.method.specs.Bidiagonal.{columnReflection, headed}
 use Rattle.method.specs.Work.{Work, Shape as Sizes}
 use Rattle.method.specs.Lengths.{SameLengths}
 use Rattle.method.specs.Walk as Walks
-use Rattle.method.specs.Positions.{Corner}
-use Rattle.method.specs.Outcome as Outcome
+use Rattle.method.specs.Positions as Positions
+use Rattle.method.specs.Report as Reports
+use Rattle.checks.specs.Values.{refusalIn}
 use Rattle.svd.specs.declared.givens.Rotation.{Rotation}
 use Rattle.svd.specs.declared.report.Report.{Report}
 use Rattle.svd.specs.declared.report.Word.{Word}
 use Rattle.svd.specs.declared.report.Word.the-variants.{None, Settled, Stopped}
 use Rattle.svd.specs.declared.shape.Shape.{Shape}
+use Rattle.svd.specs.declared.tally.Tally.{Tally}
+use Rattle.svd.specs.declared.primitives.Corner.{Corner}
 use Rattle.svd.specs.declared.primitives.Walk.{Walk}
 
 -- a rotation
@@ -31,32 +34,27 @@ reflection entries vector tau = record { entries = entries; vector = vector; tau
 abbrev pub sizes : Shape → Sizes
 sizes z = record { rows = z .rows; cols = z .cols; stride = z .stride; urows = z .urows; vrows = z .vrows }
 
+-- what a walk counts
+abbrev pub tallyOf : Tally → Walks.Tally
+tallyOf t = record { range = t .range; passes = t .passes; sweeps = t .sweeps; drops = t .drops }
+
 -- the walk's record
 abbrev pub walkOf : Walk → Walks.Walk
-walkOf w = record { tally = record { range = w .range; passes = w .passes; sweeps = w .sweeps; drops = w .drops }; counter = w .counter }
+walkOf w = record { tally = tallyOf (w .tally); counter = w .counter }
 
--- the six counters that the drop helper of document 004 keeps
-abbrev pub corner : Walk → Corner
-corner w = record { range = w .range; inter = w .inter; coupling = w .e1; topLeft = w .tl; bottomLeft = w .bl; counter = w .counter }
+-- where its corner stands
+abbrev pub cornerIn : Corner → Positions.Corner
+cornerIn c = record { inter = c .inter; coupling = c .e1; topLeft = c .tl; bottomLeft = c .bl }
 
 -- the report's word
-abbrev pub wordOf : Word → Outcome.Word
-wordOf None = Outcome.none
-wordOf Settled = Outcome.settled
-wordOf Stopped = Outcome.stopped
+abbrev pub wordIn : Word → Reports.Word
+wordIn None = Reports.none
+wordIn Settled = Reports.settled
+wordIn Stopped = Reports.stopped
 
 -- the report
-abbrev pub reportOf : Report → Outcome.Report
-reportOf r =
-    record {
-      number = r .number;
-      place = r .place;
-      word = wordOf (r .word);
-      passes = r .passes;
-      sweeps = r .sweeps;
-      drops = r .drops;
-      range = r .range;
-    }
+abbrev pub reportOf : Report → Reports.Report
+reportOf r = record { refusal = refusalIn (r .refusal); word = wordIn (r .word); tally = tallyOf (r .tally) }
 
 -- what making the reflection of column j from row i on leaves in the table and in the vector, and its tau
 pub record Taken (floor : Float) (rows stride i j : ℕ) (b b′ p : List Float) (tau : Float) : Type 0 where

@@ -180,13 +180,31 @@ pub(crate) fn decomp_givens(
 {
     let mut walk = first;
     let mut made = 0;
-    while made < n && walk.range > 1 && walk.counter < s.limit {
+    while made < n && walk.tally.range > 1 && walk.counter < s.limit {
         made += 1;
-        let drops = is_negligible(b, z.stride, upper, walk.inter, walk.e1, walk.tl, walk.bl, s);
+        let drops = is_negligible(
+            b,
+            z.stride,
+            upper,
+            walk.corner.inter,
+            walk.corner.e1,
+            walk.corner.tl,
+            walk.corner.bl,
+            s,
+        );
         if drops {
             walk = walk.drop(z.stride, s.credit);
         } else {
-            givens_iteration(b, u, v, z, upper, walk.inter, walk.tl, walk.bl);
+            givens_iteration(
+                b,
+                u,
+                v,
+                z,
+                upper,
+                walk.corner.inter,
+                walk.corner.tl,
+                walk.corner.bl,
+            );
             walk = walk.sweep();
         }
     }

@@ -55,7 +55,7 @@ impl Tally {
     // The same, of which the library answered this.
     fn answered(mut self, report: Report) -> Tally {
         self.runs = plus(self.runs, 1);
-        self.passes = plus(self.passes, report.passes as u64);
+        self.passes = plus(self.passes, report.tally.passes as u64);
         let word = report.word;
         match word {
             Word::None => {

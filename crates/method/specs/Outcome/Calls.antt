@@ -11,7 +11,8 @@ use lib.Ieee.{Format}
 use Rattle.method.specs.Work.{Work, work}
 use Rattle.method.specs.Walk.Counts.{enough-most}
 use Rattle.method.specs.Checks.{refusalOf}
-use Rattle.method.specs.Outcome.{settled, outcome, plainOutcome, fullOutcome}
+use Rattle.method.specs.Report.{settled}
+use Rattle.method.specs.Outcome.{outcome, plainOutcome, fullOutcome}
 use Rattle.method.specs.Settings.{Settings, mostPasses}
 use Rattle.method.specs.Checks.Table.{clear, fit}
 use Rattle.method.specs.Outcome.Refused.{accepted-outcome}
@@ -64,7 +65,7 @@ settled-stays f kept rows cols s w n h most e q =
     (accepted-settled f kept rows cols s w n h (rw (accepted-outcome f kept rows cols s w e) at q))
 
 -- the passes of an accepted run are at most `mostPasses`
-pub passes-most : (f : Format) (kept : Bool) (rows cols : ℕ) (s : Settings) (w : Work) → refusalOf kept rows cols s w .number ≡ 0 → outcome f kept rows cols s w .report .passes ≤ mostPasses
+pub passes-most : (f : Format) (kept : Bool) (rows cols : ℕ) (s : Settings) (w : Work) → refusalOf kept rows cols s w .number ≡ 0 → outcome f kept rows cols s w .report .tally .passes ≤ mostPasses
 passes-most f kept rows cols s w e =
     let k = fit kept rows cols s w e in
     rw (accepted-outcome f kept rows cols s w e)

@@ -7,15 +7,18 @@ use mathlib.Core.Logic.{_⊎_, inl, inr}
 use mathlib.Core.Bool.{Bool, true, false, _&&_}
 use lib.Dec.{ltb}
 use borrow.Author.Tests.{ltb-true, ltb-false, lt-ltb, le-ltb}
-use Rattle.method.specs.Walk.{Walk, Rules, State, begun, start, afterDrop, afterSweep, going, pass, run, enough, walked}
+use Rattle.method.specs.Walk.{Tally, Walk, Rules, State, begun, start, afterDrop, afterSweep, going, pass, run, enough, walked}
 use Rattle.method.specs.Walk.Run.{Going, going-true, true-going, narrow, ended, pass-drop, pass-sweep, pass-keeps, run-more, run-end, run-keeps, run-add, run-next, run-same}
 
 -- the sums of n passes fit the machine's numbers
+pub record TallyRoom (n : ℕ) (t : Tally) : Type 0 where
+  pub passes : t .passes + n < 2 ^ 32
+  pub sweeps : t .sweeps + n < 2 ^ 32
+  pub drops : t .drops + n < 2 ^ 32
+
 pub record Room (n : ℕ) (w : Walk) : Type 0 where
+  pub tally : TallyRoom n (w .tally)
   pub counter : w .counter + n < 2 ^ 32
-  pub passes : w .tally .passes + n < 2 ^ 32
-  pub sweeps : w .tally .sweeps + n < 2 ^ 32
-  pub drops : w .tally .drops + n < 2 ^ 32
 
 -- ---- a loop with a budget, from any state: k passes were made, or the walk was at its end before
 
@@ -56,7 +59,7 @@ module _ {D : Type 0} {rules : Rules D} {limit credit k : ℕ} {s₀ s : State D
   pub made-room : {n : ℕ} → Room n (s₀ .walk) → k < n → Room 1 (s .walk)
   made-room {n} q h =
       let m = made-moved in
-      record { counter = omega arith; passes = omega arith; sweeps = omega arith; drops = omega arith }
+      record { tally = record { passes = omega arith; sweeps = omega arith; drops = omega arith }; counter = omega arith }
 
   pub made-all : {n : ℕ} → k ≤ n → n ≤ k → s ≡ run rules limit credit n s₀
   made-all {n} h h′ = r .is ∙ ap (λ (x : ℕ). run rules limit credit x s₀) (let e : k ≡ n = omega arith in e)
