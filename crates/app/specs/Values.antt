@@ -3,19 +3,19 @@ use Prim.Native.Nat.{ℕ}
 use lib.Ieee.{Float}
 use Rattle.method.specs.Work.{Work}
 use Rattle.method.specs.Settings.{Settings}
-use Rattle.method.specs.Report as Reports
+use Rattle.method.specs.Report as Report
 use Rattle.method.specs.Outcome.{Outcome}
 use Rattle.app.specs.declared.Answer.{Answer}
 use Rattle.app.specs.declared.Choice.{Choice}
 
 -- the word's number
-abbrev pub numbered : Reports.Word → ℕ
-numbered Reports.none = 0
-numbered Reports.settled = 1
-numbered Reports.stopped = 2
+abbrev pub numbered : Report.Word → ℕ
+numbered Report.none = 0
+numbered Report.settled = 1
+numbered Report.stopped = 2
 
 -- the report
-abbrev pub answerOf : Reports.Report → Answer
+abbrev pub answerOf : Report.Report → Answer
 answerOf r =
     record {
       number = r .refusal .number;

@@ -1,5 +1,5 @@
--- Where the live corner's last 2 x 2 stands in the list: the positions that the drop helper of document 004 moves, and that they
--- are always those of the range, the corner whose top left is entry (k, k) for k = range - 2. Assumes nothing.
+-- Where the live corner's last 2 x 2 stands in the list: the positions that the drop helper of document 004 moves, and
+-- that they are always those of the range, the corner whose top left is entry (k, k) for k = range - 2. Assumes nothing.
 use mathlib.Core.Path.{_≡_, refl, ap, _∙_}
 use mathlib.Core.Bool.{Bool, true, false}
 use Prim.Native.Nat.{ℕ, zero, suc, _+_, _-_, _*_, _≤_, _<_}
@@ -15,6 +15,14 @@ pub record Corner : Type 0 where
   pub coupling : ℕ
   pub topLeft : ℕ
   pub bottomLeft : ℕ
+
+abbrev corner : ℕ → ℕ → ℕ → ℕ → Corner
+corner i c t b = record { inter = i; coupling = c; topLeft = t; bottomLeft = b }
+
+same-corner :
+    {i i′ c c′ t t′ b b′ : ℕ} → i ≡ i′ → c ≡ c′ → t ≡ t′ → b ≡ b′ →
+    corner i c t b ≡ corner i′ c′ t′ b′
+same-corner inter coupling topLeft bottomLeft = cc
 
 -- where the coupling stands: right of (k, k) in the upper form, below it in the lower
 abbrev pub couplingPlace : Bool → ℕ → ℕ → ℕ
@@ -80,39 +88,29 @@ start-placed upper stride c = record { placed = λ h. refl }
 rows-two : (stride c : ℕ) → 2 ≤ c → c * stride ≡ (c - 2) * stride + 2 * stride
 rows-two stride c h = let e : c ≡ c - 2 + 2 = omega arith in ap (λ z. z * stride) e ∙ add-mul (c - 2) 2 stride
 
--- The Rust's start is the corner of c: in the upper form where the stride is c, as in a packed table with no more columns than
--- rows, and in the lower form for every stride.
-pub begun-start : (upper : Bool) (stride c : ℕ) → 2 ≤ c → (upper ≡ true → stride ≡ c) → cornerBegun upper stride c ≡ cornerOf upper stride c
+-- The Rust's start is the corner of c: in the upper form where the stride is c, as in a packed table with no more columns
+-- than rows, and in the lower form for every stride.
+pub begun-start :
+    (upper : Bool) (stride c : ℕ) → 2 ≤ c → (upper ≡ true → stride ≡ c) →
+    cornerBegun upper stride c ≡ cornerOf upper stride c
 unfolding cornerBegun cornerOf
 begun-start true stride c h packed =
     let e : stride ≡ c = packed refl in
     let r = rows-two stride c h in
-    let coupling : c * stride - (stride + 1) ≡ (c - 2) * stride + (c - 2 + 1) = omega arith in
-    let topLeft : c * stride - (stride + 2) ≡ (c - 2) * stride + (c - 2) = omega arith in
-    let bottomLeft : c * stride - 2 ≡ (c - 2 + 1) * stride + (c - 2) = omega arith in
-    cc
+    same-corner refl (omega arith) (omega arith) (omega arith)
 begun-start false stride c h packed =
     let r = rows-two stride c h in
-    let topLeft : c * stride + c - (2 + stride * 2) ≡ (c - 2) * stride + (c - 2) = omega arith in
-    let bottomLeft : c * stride + c - (stride + 2) ≡ (c - 2 + 1) * stride + (c - 2) = omega arith in
-    cc
+    same-corner refl (omega arith) (omega arith) (omega arith)
 
 -- ---- a pass
 
 -- a drop moves the corner up the diagonal by one entry
-dropped-at : (upper : Bool) (stride k : ℕ) → cornerDropped stride (cornerAt upper stride (k + 1)) ≡ cornerAt upper stride k
+dropped-at :
+    (upper : Bool) (stride k : ℕ) →
+    cornerDropped stride (cornerAt upper stride (k + 1)) ≡ cornerAt upper stride k
 unfolding cornerDropped
-dropped-at true stride k =
-    let inter : k + 1 - 1 ≡ k = omega arith in
-    let coupling : (k + 1) * stride + (k + 1 + 1) - (stride + 1) ≡ k * stride + (k + 1) = omega arith in
-    let topLeft : (k + 1) * stride + (k + 1) - (stride + 1) ≡ k * stride + k = omega arith in
-    let bottomLeft : (k + 1 + 1) * stride + (k + 1) - (stride + 1) ≡ (k + 1) * stride + k = omega arith in
-    cc
-dropped-at false stride k =
-    let inter : k + 1 - 1 ≡ k = omega arith in
-    let topLeft : (k + 1) * stride + (k + 1) - (stride + 1) ≡ k * stride + k = omega arith in
-    let bottomLeft : (k + 1 + 1) * stride + (k + 1) - (stride + 1) ≡ (k + 1) * stride + k = omega arith in
-    cc
+dropped-at true stride k = same-corner (omega arith) (omega arith) (omega arith) (omega arith)
+dropped-at false stride k = same-corner (omega arith) (omega arith) (omega arith) (omega arith)
 
 -- a drop keeps the corner that of the range, for every stride
 pub dropped-placed :
@@ -123,7 +121,8 @@ dropped-placed upper stride range w p =
     record {
       placed = λ h.
           let e : range - 2 ≡ range - 1 - 2 + 1 = omega arith in
-          ap (cornerDropped stride) (p .placed (omega arith)) ∙ ap (λ (k : ℕ). cornerDropped stride (cornerAt upper stride k)) e
+          ap (cornerDropped stride) (p .placed (omega arith))
+          ∙ ap (λ (k : ℕ). cornerDropped stride (cornerAt upper stride k)) e
           ∙ dropped-at upper stride (range - 1 - 2);
     }
 
@@ -136,7 +135,8 @@ cornerAfter upper stride c (suc n) = cornerDropped stride (cornerAfter upper str
 
 -- is placed, in the upper form where the stride is c and in the lower form for every stride
 pub after-placed :
-    (upper : Bool) (stride c n : ℕ) → (upper ≡ true → stride ≡ c) → Placed upper stride (c - n) (cornerAfter upper stride c n)
+    (upper : Bool) (stride c n : ℕ) → (upper ≡ true → stride ≡ c) →
+    Placed upper stride (c - n) (cornerAfter upper stride c n)
 unfolding cornerAfter
 after-placed upper stride c zero packed =
     let e : c - 0 ≡ c = omega arith in
@@ -145,9 +145,11 @@ after-placed upper stride c (suc n) packed =
     let e : c - suc n ≡ c - n - 1 = omega arith in
     rw e (dropped-placed upper stride (c - n) (cornerAfter upper stride c n) (after-placed upper stride c n packed))
 
--- So in every walk over a diagonal of c entries the Rust's corner is that of the range: tally and counter are enough to go on from.
+-- So in every walk over a diagonal of c entries the Rust's corner is that of the range: tally and counter are enough to go
+-- on from.
 pub walk-placed :
-    {D : Type 0} (rules : Rules D) (limit credit c n : ℕ) (d : D) (upper : Bool) (stride : ℕ) → (upper ≡ true → stride ≡ c) →
+    {D : Type 0} (rules : Rules D) (limit credit c n : ℕ) (d : D) (upper : Bool) (stride : ℕ) →
+    (upper ≡ true → stride ≡ c) →
     let t = run rules limit credit n (start c d) .walk .tally in
     Placed upper stride (t .range) (cornerAfter upper stride c (t .drops))
 walk-placed rules limit credit c n d upper stride packed =

@@ -1,5 +1,5 @@
--- What a call reports: the refusal, the word, and what the walk counted. A refused call reports the refusal alone; an accepted
--- one, the state that its walk came to. Definitions only.
+-- What a call reports: the refusal, the word, and what the walk counted. A refused call reports the refusal alone; an
+-- accepted one, the state that its walk came to. Definitions only.
 pub mod Words
 use Prim.Native.Nat.{ℕ}
 use lib.Dec.{eqb}

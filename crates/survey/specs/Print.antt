@@ -46,7 +46,8 @@ wordText stopped = 115 ∷ 116 ∷ 111 ∷ 112 ∷ 112 ∷ 101 ∷ 100 ∷ []
 unfoldable pub reportText : ℕ → Report → Bytes
 reportText id r =
     let t = r .tally in
-    lineText (shown id ∷ wordText (r .word) ∷ shown (t .passes) ∷ shown (t .sweeps) ∷ shown (t .drops) ∷ shown (t .range) ∷ [])
+    lineText
+    (shown id ∷ wordText (r .word) ∷ shown (t .passes) ∷ shown (t .sweeps) ∷ shown (t .drops) ∷ shown (t .range) ∷ [])
 
 -- `id refused number place`
 unfoldable pub refusedText : ℕ → Report → Bytes

@@ -65,7 +65,9 @@ module _ (e : Entry) (xs : List Float) (r : InRange e) (l : length xs ≡ e .row
       id-few : e .id < 1000000
       id-few = omega (arith, r .id-most)
 
-      go : (b : Bool) → eqb (told .report .refusal .number) 0 ≡ b → Small (told .report) → length (told .held .matrix) ≡ length xs → length (outcomeText (e .id) (e .rows) (e .cols) told) ≤ 39216
+      go :
+          (b : Bool) → eqb (told .report .refusal .number) 0 ≡ b → Small (told .report) →
+          length (told .held .matrix) ≡ length xs → length (outcomeText (e .id) (e .rows) (e .cols) told) ≤ 39216
       go true x s m =
           let w = line-most (shown (e .id) ∷ wordText (told .report .word) ∷ shown (told .report .tally .passes) ∷ shown (told .report .tally .sweeps) ∷ shown (told .report .tally .drops) ∷ shown (told .report .tally .range) ∷ [])
           (shown-most (e .id) id-few, (word-most (told .report .word), (shown-most (told .report .tally .passes) (s .passes), (shown-most (told .report .tally .sweeps) (s .sweeps), (shown-most (told .report .tally .drops) (s .drops), (shown-most (told .report .tally .range) (s .range), tt)))))) in

@@ -196,7 +196,9 @@ unfolding refusalText
 refusal-is n h = rw (refusalText, ne-eqb n 0 (λ z. omega arith))
 
 module _ (id rows cols : ℕ) (o : Outcome) where
-  pub outcome-accepted : o .report .refusal .number ≡ 0 → outcomeText id rows cols o ≡ reportText id (o .report) ++ rowsText rows cols (o .held .matrix)
+  pub outcome-accepted :
+      o .report .refusal .number ≡ 0 →
+      outcomeText id rows cols o ≡ reportText id (o .report) ++ rowsText rows cols (o .held .matrix)
   unfolding outcomeText
   outcome-accepted e = rw (outcomeText, eq-eqb (o .report .refusal .number) 0 e)
 

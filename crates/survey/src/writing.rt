@@ -66,7 +66,8 @@ fn put_field(out: &mut [u8; 314000], at: usize, n: usize) -> usize
 // A space, and the report's word.
 fn put_word(out: &mut [u8; 314000], at: usize, word: Word) -> usize
     requires { ⌜ at + 8 ≤ 314000 ⌝ }
-    ensures { λ r. ⌜ Written (now (out .entry)) at (space ∷ wordText (wordIn word)) (now (out .exit)) r × (r ≤ at + 8) ⌝ }
+    ensures { λ r. ⌜ Written (now (out .entry)) at (space ∷ wordText (wordIn word)) (now (out .exit)) r
+        × (r ≤ at + 8) ⌝ }
 {
     match word {
         Word::None => put_bytes(out, at, b" none"),

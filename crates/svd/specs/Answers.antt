@@ -5,8 +5,8 @@ use Prim.Native.Nat.{ℕ}
 use lib.Ieee.{Float, binary64}
 use Rattle.method.specs.Work.{Work, work}
 use Rattle.method.specs.Checks as Checks
-use Rattle.method.specs.Walk as Walks
-use Rattle.method.specs.Report as Reports
+use Rattle.method.specs.Walk as Walk
+use Rattle.method.specs.Report as Report
 use Rattle.method.specs.Outcome.{Outcome, outcomeOf, fullOutcome, plainOutcome}
 use Rattle.checks.specs.declared.settings.Settings.{Settings}
 use Rattle.checks.specs.declared.refusal.Refusal.{Refusal}
@@ -20,10 +20,10 @@ use Rattle.svd.specs.Values.{wordIn, reportOf}
 -- ---- the report
 
 -- the word is told by the method's word
-abbrev fromWord : Reports.Word → Word
-fromWord Reports.none = None
-fromWord Reports.settled = Settled
-fromWord Reports.stopped = Stopped
+abbrev fromWord : Report.Word → Word
+fromWord Report.none = None
+fromWord Report.settled = Settled
+fromWord Report.stopped = Stopped
 
 from-word : (w : Word) → fromWord (wordIn w) ≡ w
 from-word None = refl
@@ -34,11 +34,11 @@ from-word Stopped = refl
 abbrev fromRefusal : Checks.Refusal → Refusal
 fromRefusal r = record { number = r .number; place = r .place }
 
-abbrev fromTally : Walks.Tally → Tally
+abbrev fromTally : Walk.Tally → Tally
 fromTally t = record { range = t .range; passes = t .passes; sweeps = t .sweeps; drops = t .drops }
 
 -- the report by the method's report
-abbrev fromReport : Reports.Report → Report
+abbrev fromReport : Report.Report → Report
 fromReport r = record { refusal = fromRefusal (r .refusal); word = fromWord (r .word); tally = fromTally (r .tally) }
 
 -- r with another word

@@ -45,8 +45,10 @@ module _ (kept : Bool) (rows cols : ℕ) (s : Settings) (w : Work) where
   unfolding accepted
   accepted-call r report last w′ e none q d =
       let h : refusalOf kept rows cols s w .number ≡ 0 = ap (λ (x : Refusal). x .number) (sym e) ∙ none in
-      let told : report ≡ reported (stands last w′) = q ∙ reported-same (stands last (work (w′ .matrix) [] [])) (stands last w′) refl refl in
-      rw (told, accepted-outcome binary64 kept rows cols s w h) (ap (λ (x : State Work). outcomeOf (reported x) (x .held)) d)
+      let told : report ≡ reported (stands last w′) =
+      q ∙ reported-same (stands last (work (w′ .matrix) [] [])) (stands last w′) refl refl in
+      rw (told, accepted-outcome binary64 kept rows cols s w h)
+      (ap (λ (x : State Work). outcomeOf (reported x) (x .held)) d)
 
   -- what a call that is not refused may lean on
   pub call-fit : (r : Refusal) → r ≡ refusalOf kept rows cols s w → r .number ≡ 0 → Fit kept rows cols s w

@@ -10,7 +10,8 @@ use lib.Ieee.{Float, binary64}
 use Rattle.method.specs.Work.{Work, Shape as Sizes}
 use Rattle.method.specs.Lengths.{SameLengths, onward, swept-lengths}
 use Rattle.method.specs.Chase.{negligible, swept}
-use Rattle.method.specs.Walk.{Walk as Record, Rules, State, stands, begun, run, afterDrop, afterSweep}
+use Rattle.method.specs.Walk as Walk
+use Rattle.method.specs.Walk.{State, stands, begun, run, afterDrop, afterSweep}
 use Rattle.method.specs.Walk.Counts.{walked-same, enough-most}
 use Rattle.method.specs.Walk.Run.{Going, narrow, spent}
 use Rattle.method.specs.Walk.Loop.{Room, Made, made-none, made-drop, made-sweep, made-moved, made-room, made-all, made-end}
@@ -22,7 +23,8 @@ use lib.Dec.{lit<}
 use Rattle.svd.specs.Values.{walkOf, cornerIn, Lending, lending-kept, Inside, Block}
 use Rattle.svd.specs.declared.primitives.Walk.{Walk}
 
--- a record from which n passes may be asked: its range lies in the table, its corner is that of the range, and its counts have room
+-- a record from which n passes may be asked: its range lies in the table, its corner is that of the range, and its counts
+-- have room
 pub record Standing (z : Sizes) (upper : Bool) (n : ℕ) (w : Walk) : Type 0 where
   pub inside : Inside z (w .tally .range)
   pub placed : Placed upper (z .stride) (w .tally .range) (cornerIn (w .corner))
@@ -51,8 +53,8 @@ here z upper w p h =
     }
 
 -- a record's range is that of the method's record
-ranges : (w : Walk) {k : Record} → walkOf w ≡ k → w .tally .range ≡ k .tally .range
-ranges w e = ap (λ (k : Record). k .tally .range) e
+ranges : (w : Walk) {k : Walk.Walk} → walkOf w ≡ k → w .tally .range ≡ k .tally .range
+ranges w e = ap (λ (k : Walk.Walk). k .tally .range) e
 
 -- ---- the loop
 
@@ -61,7 +63,9 @@ pub record Inv (z : Sizes) (upper : Bool) (n : ℕ) (s : Settings) (first : Walk
   pub same : SameLengths start now
   pub within : made ≤ n
   pub placed : Placed upper (z .stride) (w .tally .range) (cornerIn (w .corner))
-  pub by : Made (rulesOf binary64 z upper (s .tolerance) (s .absolute)) (s .limit) (s .credit) (stands (walkOf first) start) made (stands (walkOf w) now)
+  pub by :
+      Made (rulesOf binary64 z upper (s .tolerance) (s .absolute)) (s .limit) (s .credit) (stands (walkOf first) start) made
+      (stands (walkOf w) now)
 
 pub inv-start : (z : Sizes) (upper : Bool) (n : ℕ) (s : Settings) (first : Walk) (d : Work) → Standing z upper n first → Inv z upper n s first d d first 0
 inv-start z upper n s first d q =
@@ -157,7 +161,9 @@ module _ {z : Sizes} {upper : Bool} {n : ℕ} {s : Settings} {first : Walk} {sta
 
 module _ {z : Sizes} {upper : Bool} {n : ℕ} {s : Settings} {first : Walk} {start now : Work} {w : Walk} {made : ℕ} (i : Inv z upper n s first start now w made) where
   abbrev asked : State Work
-  asked = run (rulesOf binary64 z upper (s .tolerance) (s .absolute)) (s .limit) (s .credit) n (stands (walkOf first) start)
+  asked =
+      run (rulesOf binary64 z upper (s .tolerance) (s .absolute)) (s .limit) (s .credit) n
+      (stands (walkOf first) start)
 
   pub inv-all : n ≤ made → stands (walkOf w) now ≡ asked
   inv-all h = made-all (i .by) (i .within) h
@@ -186,7 +192,7 @@ first-standing z upper c first h ec eo =
 
 -- the bidiagonal form and then `mostPasses` at most are the definition's whole run
 pub decomposed :
-    (z : Sizes) (s : Settings) (w w₁ w₂ : Work) (c : ℕ) (first last : Record) →
+    (z : Sizes) (s : Settings) (w w₁ w₂ : Work) (c : ℕ) (first last : Walk.Walk) →
     c ≡ card (z .rows) (z .cols) →
     c ≤ mostSize →
     s .limit ≤ mostLimit →
@@ -194,7 +200,8 @@ pub decomposed :
     w₁ ≡ bidiagonal binary64 (s .floor) z (isUpper (z .rows) (z .cols)) c w →
     first ≡ begun c →
     stands last w₂ ≡
-    run (rulesOf binary64 z (isUpper (z .rows) (z .cols)) (s .tolerance) (s .absolute)) (s .limit) (s .credit) mostPasses (stands first w₁) →
+    run (rulesOf binary64 z (isUpper (z .rows) (z .cols)) (s .tolerance) (s .absolute)) (s .limit) (s .credit) mostPasses
+    (stands first w₁) →
     stands last w₂ ≡ walkedFrom binary64 z (z .rows) (z .cols) s w
 decomposed z s w w₁ w₂ c first last e few low paid e₁ ef e₂ =
     rw (ef, e₁, e) at e₂

@@ -9,9 +9,9 @@ use Rattle.method.specs.Reflection.{Reflection}
 use Rattle.method.specs.Bidiagonal.{columnReflection, headed}
 use Rattle.method.specs.Work.{Work, Shape as Sizes}
 use Rattle.method.specs.Lengths.{SameLengths}
-use Rattle.method.specs.Walk as Walks
+use Rattle.method.specs.Walk as Walk
 use Rattle.method.specs.Positions as Positions
-use Rattle.method.specs.Report as Reports
+use Rattle.method.specs.Report as Report
 use Rattle.checks.specs.Values.{refusalIn}
 use Rattle.svd.specs.declared.givens.Rotation.{Rotation}
 use Rattle.svd.specs.declared.report.Report.{Report}
@@ -35,11 +35,11 @@ abbrev pub sizes : Shape → Sizes
 sizes z = record { rows = z .rows; cols = z .cols; stride = z .stride; urows = z .urows; vrows = z .vrows }
 
 -- what a walk counts
-abbrev pub tallyOf : Tally → Walks.Tally
+abbrev pub tallyOf : Tally → Walk.Tally
 tallyOf t = record { range = t .range; passes = t .passes; sweeps = t .sweeps; drops = t .drops }
 
 -- the walk's record
-abbrev pub walkOf : Walk → Walks.Walk
+abbrev pub walkOf : Walk → Walk.Walk
 walkOf w = record { tally = tallyOf (w .tally); counter = w .counter }
 
 -- where its corner stands
@@ -47,13 +47,13 @@ abbrev pub cornerIn : Corner → Positions.Corner
 cornerIn c = record { inter = c .inter; coupling = c .e1; topLeft = c .tl; bottomLeft = c .bl }
 
 -- the report's word
-abbrev pub wordIn : Word → Reports.Word
-wordIn None = Reports.none
-wordIn Settled = Reports.settled
-wordIn Stopped = Reports.stopped
+abbrev pub wordIn : Word → Report.Word
+wordIn None = Report.none
+wordIn Settled = Report.settled
+wordIn Stopped = Report.stopped
 
 -- the report
-abbrev pub reportOf : Report → Reports.Report
+abbrev pub reportOf : Report → Report.Report
 reportOf r = record { refusal = refusalIn (r .refusal); word = wordIn (r .word); tally = tallyOf (r .tally) }
 
 -- what making the reflection of column j from row i on leaves in the table and in the vector, and its tau

@@ -65,7 +65,10 @@ settled-stays f kept rows cols s w n h most e q =
     (accepted-settled f kept rows cols s w n h (rw (accepted-outcome f kept rows cols s w e) at q))
 
 -- the passes of an accepted run are at most `mostPasses`
-pub passes-most : (f : Format) (kept : Bool) (rows cols : ℕ) (s : Settings) (w : Work) → refusalOf kept rows cols s w .number ≡ 0 → outcome f kept rows cols s w .report .tally .passes ≤ mostPasses
+pub passes-most :
+    (f : Format) (kept : Bool) (rows cols : ℕ) (s : Settings) (w : Work) →
+    refusalOf kept rows cols s w .number ≡ 0 →
+    outcome f kept rows cols s w .report .tally .passes ≤ mostPasses
 passes-most f kept rows cols s w e =
     let k = fit kept rows cols s w e in
     rw (accepted-outcome f kept rows cols s w e)

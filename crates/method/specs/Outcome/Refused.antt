@@ -32,6 +32,8 @@ module _ (f : Format) (kept : Bool) (rows cols : ℕ) (s : Settings) (w : Work) 
   pub outcome-number : outcome f kept rows cols s w .report .refusal .number ≡ refusalOf kept rows cols s w .number
   outcome-number = go (eqb (refusalOf kept rows cols s w .number) 0) refl
     where
-      go : (b : Bool) → eqb (refusalOf kept rows cols s w .number) 0 ≡ b → outcome f kept rows cols s w .report .refusal .number ≡ refusalOf kept rows cols s w .number
+      go :
+          (b : Bool) → eqb (refusalOf kept rows cols s w .number) 0 ≡ b →
+          outcome f kept rows cols s w .report .refusal .number ≡ refusalOf kept rows cols s w .number
       go true t = let e = eqb-true (refusalOf kept rows cols s w .number) 0 t in rw (accepted-outcome e) (accepted-number ∙ sym e)
       go false t = rw (refused-outcome (eqb-false (refusalOf kept rows cols s w .number) 0 t))

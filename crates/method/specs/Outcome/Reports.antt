@@ -16,7 +16,7 @@ use Rattle.method.specs.Rotation.{Rotation, rotationOf, rowsTurned, colu
 use Rattle.method.specs.Bidiagonal.{columnMatrix, rowMatrix, columnZeroed, rowZeroed, firstZeroed, thenZeroed, placesZeroed, bidiagonal}
 use Rattle.method.specs.Chase.{along, turned, pushed, stepped, steps, swept, negligible, firstRotation}
 use Rattle.method.specs.Walk.{Walk, State, start, run, enough, walked}
-use Rattle.method.specs.Walk.Counts.{whole-walk}
+use Rattle.method.specs.Walk.Counts.{WholeWalk, whole-walk}
 use Rattle.method.specs.Walk.Limits as Limits
 use Rattle.method.specs.Walk.Alike.{Alike, walked-alike}
 use Rattle.method.specs.Report.{settled, stopped, Report}
@@ -55,10 +55,17 @@ module _ (f : Format) (kept : Bool) (rows cols : ℕ) (s : Settings) (w : Work) 
   abbrev ends : State Work
   ends = walkedFrom f (packed kept rows cols) rows cols s w
 
+  true-walk : 1 ≤ rows → 1 ≤ cols → WholeWalk (s .limit) (s .credit) (card rows cols) (ends .walk)
+  true-walk h g =
+      let z = packed kept rows cols in
+      whole-walk (rulesOf f z (isUpper rows cols) (s .tolerance) (s .absolute)) (s .limit) (s .credit) (card rows cols)
+      (bidiagonal f (s .floor) z (isUpper rows cols) (card rows cols) w)
+      (card-some rows cols h g)
+
   pub accepted-true : 1 ≤ rows → 1 ≤ cols → TrueReport s (card rows cols) (accepted f kept rows cols s w .report)
   unfolding accepted
   accepted-true h g =
-      let k = whole-walk (rulesOf f (packed kept rows cols) (isUpper rows cols) (s .tolerance) (s .absolute)) (s .limit) (s .credit) (card rows cols) (bidiagonal f (s .floor) (packed kept rows cols) (isUpper rows cols) (card rows cols) w) (card-some rows cols h g) in
+      let k = true-walk h g in
       record {
         number = refl;
         place = refl;
@@ -74,10 +81,12 @@ module _ (f : Format) (kept : Bool) (rows cols : ℕ) (s : Settings) (w : Work) 
   -- the run has ended by itself: one is left, or the counter is at the limit
   pub accepted-ended : 1 ≤ rows → 1 ≤ cols → (ends .walk .tally .range ≡ 1) ⊎ (s .limit ≤ ends .walk .counter)
   accepted-ended h g =
-      let k = whole-walk (rulesOf f (packed kept rows cols) (isUpper rows cols) (s .tolerance) (s .absolute)) (s .limit) (s .credit) (card rows cols) (bidiagonal f (s .floor) (packed kept rows cols) (isUpper rows cols) (card rows cols) w) (card-some rows cols h g) in
+      let k = true-walk h g in
       go (k .end) (k .range .0)
     where
-      go : (ends .walk .tally .range ≤ 1) ⊎ (s .limit ≤ ends .walk .counter) → 1 ≤ ends .walk .tally .range → (ends .walk .tally .range ≡ 1) ⊎ (s .limit ≤ ends .walk .counter)
+      go :
+          (ends .walk .tally .range ≤ 1) ⊎ (s .limit ≤ ends .walk .counter) → 1 ≤ ends .walk .tally .range →
+          (ends .walk .tally .range ≡ 1) ⊎ (s .limit ≤ ends .walk .counter)
       go (inl l) m = inl (omega arith)
       go (inr l) m = inr l
 

@@ -24,5 +24,7 @@ module _ (s : State Work) where
   more-stopped h = rw (ne-eqb (s .walk .tally .range) 1 (λ e. omega arith))
 
 -- two states with the same walk and the same matrix, whatever their factors, are reported alike
-pub reported-same : (s s′ : State Work) → s .walk ≡ s′ .walk → s .held .matrix ≡ s′ .held .matrix → reported s ≡ reported s′
+pub reported-same :
+    (s s′ : State Work) →
+    s .walk ≡ s′ .walk → s .held .matrix ≡ s′ .held .matrix → reported s ≡ reported s′
 reported-same s s′ e m = ap (λ (w : Walk). reported (stands w (s′ .held))) e

@@ -34,7 +34,9 @@ module _ (limit credit : ℕ) (w : Walk) (g : Going limit w) where
 
 module _ {D : Type 0} (rules : Rules D) (limit credit : ℕ) where
   -- with as much fuel as is ahead, a run comes to its end
-  pub run-done : (n : ℕ) (s : State D) → (1 < s .walk .tally .range → ahead limit credit (s .walk) ≤ n) → going limit (run rules limit credit n s .walk) ≡ false
+  pub run-done :
+      (n : ℕ) (s : State D) → (1 < s .walk .tally .range → ahead limit credit (s .walk) ≤ n) →
+      going limit (run rules limit credit n s .walk) ≡ false
   unfolding run
   run-done zero s h = go (going limit (s .walk)) refl
     where
@@ -47,7 +49,8 @@ module _ {D : Type 0} (rules : Rules D) (limit credit : ℕ) where
     where
       go :
           (b : Bool) → going limit (s .walk) ≡ b →
-          ((1 < pass rules credit s .walk .tally .range → ahead limit credit (pass rules credit s .walk) ≤ n) → going limit (run rules limit credit n (pass rules credit s) .walk) ≡ false) →
+          ((1 < pass rules credit s .walk .tally .range → ahead limit credit (pass rules credit s .walk) ≤ n) →
+          going limit (run rules limit credit n (pass rules credit s) .walk) ≡ false) →
           going limit (run rules limit credit (suc n) s .walk) ≡ false
       go false e ih = rw (run-end rules credit limit (suc n) s e) e
       go true e ih =
@@ -146,7 +149,9 @@ pub record WholeWalk (limit credit c : ℕ) (w : Walk) : Type 0 where
   pub none : c ≤ 1 → w .tally .passes ≡ 0
   pub end : (w .tally .range ≤ 1) ⊎ (limit ≤ w .counter)
 
-pub whole-walk : {D : Type 0} (rules : Rules D) (limit credit c : ℕ) (d : D) → 1 ≤ c → WholeWalk limit credit c (walked rules limit credit c d .walk)
+pub whole-walk :
+    {D : Type 0} (rules : Rules D) (limit credit c : ℕ) (d : D) → 1 ≤ c →
+    WholeWalk limit credit c (walked rules limit credit c d .walk)
 whole-walk rules limit credit c d h =
     let k = reached rules limit credit c (enough limit credit c) d in
     record {
@@ -159,7 +164,8 @@ whole-walk rules limit credit c d h =
     }
 
 -- the largest settings
-pub enough-most : {limit credit c : ℕ} → c ≤ mostSize → limit ≤ mostLimit → credit ≤ mostCredit → enough limit credit c ≤ mostPasses
+pub enough-most :
+    {limit credit c : ℕ} → c ≤ mostSize → limit ≤ mostLimit → credit ≤ mostCredit → enough limit credit c ≤ mostPasses
 enough-most {limit} {credit} {c} hc hl hk =
     let m : credit * (c - 2) ≤ 1000 * 46 = mul-le-mul {n₁ = credit} {m₁ = c - 2} {n₂ = 1000} {m₂ = 46} hk (omega arith) in
     omega arith

@@ -7,7 +7,7 @@ use mathlib.Core.Logic.{_⊎_, inl, inr}
 use mathlib.Core.Bool.{Bool, true, false, _&&_}
 use lib.Dec.{ltb}
 use borrow.Author.Tests.{ltb-true, ltb-false, lt-ltb, le-ltb}
-use Rattle.method.specs.Walk.{Tally, Walk, Rules, State, begun, start, afterDrop, afterSweep, going, pass, run, enough, walked}
+use Rattle.method.specs.Walk.{Tally, Walk, Rules, State, stands, afterDrop, afterSweep, going, pass, run}
 use Rattle.method.specs.Walk.Run.{Going, going-true, true-going, narrow, ended, pass-drop, pass-sweep, pass-keeps, run-more, run-end, run-keeps, run-add, run-next, run-same}
 
 -- the sums of n passes fit the machine's numbers
@@ -73,10 +73,11 @@ module _ {D : Type 0} {rules : Rules D} {limit credit k : ℕ} {s₀ s : State D
 
     pub made-drop :
         rules .negligible (s .walk .tally .range) (s .held) ≡ true →
-        Made rules limit credit s₀ (k + 1) (record { walk = afterDrop credit (s .walk); held = s .held })
+        Made rules limit credit s₀ (k + 1) (stands (afterDrop credit (s .walk)) (s .held))
     made-drop e = record { is = sym (pass-drop rules credit s e) ∙ after }
 
     pub made-sweep :
         rules .negligible (s .walk .tally .range) (s .held) ≡ false →
-        Made rules limit credit s₀ (k + 1) (record { walk = afterSweep (s .walk); held = rules .sweep (s .walk .tally .range) (s .held) })
+        Made rules limit credit s₀ (k + 1)
+        (stands (afterSweep (s .walk)) (rules .sweep (s .walk .tally .range) (s .held)))
     made-sweep e = record { is = sym (pass-sweep rules credit s e) ∙ after }

@@ -7,7 +7,7 @@ use mathlib.Core.Logic.{_⊎_, inl, inr}
 use mathlib.Core.Bool.{Bool, true, false, _&&_}
 use lib.Dec.{ltb}
 use borrow.Author.Tests.{ltb-true, ltb-false, lt-ltb, le-ltb}
-use Rattle.method.specs.Walk.{Walk, Rules, State, begun, start, afterDrop, afterSweep, going, pass, run, enough, walked}
+use Rattle.method.specs.Walk.{Walk, Rules, State, stands, begun, start, afterDrop, afterSweep, going, pass, run, enough, walked}
 
 -- ---- whether there is a pass to do
 
@@ -59,16 +59,24 @@ ended limit w e = go (ltb 1 (w .tally .range)) refl
 -- ---- one pass, and the first pass of a run
 
 module _ {D : Type 0} (rules : Rules D) (credit : ℕ) where
-  pub pass-drop : (s : State D) → rules .negligible (s .walk .tally .range) (s .held) ≡ true → pass rules credit s ≡ record { walk = afterDrop credit (s .walk); held = s .held }
+  pub pass-drop :
+      (s : State D) → rules .negligible (s .walk .tally .range) (s .held) ≡ true →
+      pass rules credit s ≡ stands (afterDrop credit (s .walk)) (s .held)
   unfolding pass
   pass-drop s e = rw (e, pass)
 
-  pub pass-sweep : (s : State D) → rules .negligible (s .walk .tally .range) (s .held) ≡ false → pass rules credit s ≡ record { walk = afterSweep (s .walk); held = rules .sweep (s .walk .tally .range) (s .held) }
+  pub pass-sweep :
+      (s : State D) → rules .negligible (s .walk .tally .range) (s .held) ≡ false →
+      pass rules credit s ≡ stands (afterSweep (s .walk)) (rules .sweep (s .walk .tally .range) (s .held))
   unfolding pass
   pass-sweep s e = rw (e, pass)
 
   -- what holds after a drop and after a sweep holds after a pass
-  pub pass-keeps : (P : State D → Type 0) (s : State D) → P (record { walk = afterDrop credit (s .walk); held = s .held }) → P (record { walk = afterSweep (s .walk); held = rules .sweep (s .walk .tally .range) (s .held) }) → P (pass rules credit s)
+  pub pass-keeps :
+      (P : State D → Type 0) (s : State D) →
+      P (stands (afterDrop credit (s .walk)) (s .held)) →
+      P (stands (afterSweep (s .walk)) (rules .sweep (s .walk .tally .range) (s .held))) →
+      P (pass rules credit s)
   pass-keeps P s d w = go (rules .negligible (s .walk .tally .range) (s .held)) refl
     where
       go : (b : Bool) → rules .negligible (s .walk .tally .range) (s .held) ≡ b → P (pass rules credit s)
