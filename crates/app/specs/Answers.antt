@@ -1,7 +1,8 @@
 -- An answer tells its outcome, and any two answers that a promise allows are equal. Assumes nothing.
 use mathlib.Core.Path.{_≡_, refl, sym, ap, _∙_}
 use Rattle.method.specs.Work.{Work}
-use Rattle.method.specs.Outcome.{Report, Outcome, outcomeOf}
+use Rattle.method.specs.Report.{Report}
+use Rattle.method.specs.Outcome.{Outcome, outcomeOf}
 use Rattle.method.specs.Settings.{Settings}
 use Rattle.app.specs.declared.Answer.{Answer}
 use Rattle.app.specs.declared.Choice.{Choice}

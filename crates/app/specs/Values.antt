@@ -3,28 +3,28 @@ use Prim.Native.Nat.{ℕ}
 use lib.Ieee.{Float}
 use Rattle.method.specs.Work.{Work}
 use Rattle.method.specs.Settings.{Settings}
-use Rattle.method.specs.Outcome as Outcome
+use Rattle.method.specs.Report as Report
 use Rattle.method.specs.Outcome.{Outcome}
 use Rattle.app.specs.declared.Answer.{Answer}
 use Rattle.app.specs.declared.Choice.{Choice}
 
 -- the word's number
-abbrev pub numbered : Outcome.Word → ℕ
-numbered Outcome.none = 0
-numbered Outcome.settled = 1
-numbered Outcome.stopped = 2
+abbrev pub numbered : Report.Word → ℕ
+numbered Report.none = 0
+numbered Report.settled = 1
+numbered Report.stopped = 2
 
 -- the report
-abbrev pub answerOf : Outcome.Report → Answer
+abbrev pub answerOf : Report.Report → Answer
 answerOf r =
     record {
-      number = r .number;
-      place = r .place;
+      number = r .refusal .number;
+      place = r .refusal .place;
       word = numbered (r .word);
-      passes = r .passes;
-      sweeps = r .sweeps;
-      drops = r .drops;
-      range = r .range;
+      passes = r .tally .passes;
+      sweeps = r .tally .sweeps;
+      drops = r .tally .drops;
+      range = r .tally .range;
     }
 
 -- an answer, and every list that was lent, as the call leaves it

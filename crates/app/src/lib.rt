@@ -18,7 +18,7 @@ ghost use Rattle.method.specs.Defaults.{defaults};
 ghost use Rattle.method.specs.Fill.{filled, fillOutcome};
 ghost use Rattle.method.specs.Outcome.{fullOutcome, plainOutcome};
 ghost use Rattle.checks.specs.Values.{settingsOf as settingsBeneath};
-ghost use Rattle.svd.specs.Values.{reportOf, wordOf};
+ghost use Rattle.svd.specs.Values.{reportOf, wordIn};
 ghost use Rattle.app.specs.Values.{numbered, answerOf, answered, told, chosen, settingsOf, layout};
 ghost use Rattle.app.specs.Row.{partOf};
 
@@ -53,7 +53,7 @@ pub struct Choice {
 }
 
 fn word_number(word: Word) -> u64
-    ensures { λ r. ⌜ r ≡ numbered (wordOf word) ⌝ }
+    ensures { λ r. ⌜ r ≡ numbered (wordIn word) ⌝ }
 {
     match word {
         Word::None => 0,
@@ -62,19 +62,20 @@ fn word_number(word: Word) -> u64
     }
 }
 
+// The one place where the report is laid out flat.
 fn tell(report: Report) -> Answer
     ensures { λ r. ⌜ r ≡ answerOf (reportOf report) ⌝ }
 {
     let word = report.word;
     let code = word_number(word);
     Answer {
-        number: report.number as u64,
-        place: report.place as u64,
+        number: report.refusal.number as u64,
+        place: report.refusal.place as u64,
         word: code,
-        passes: report.passes as u64,
-        sweeps: report.sweeps as u64,
-        drops: report.drops as u64,
-        range: report.range as u64,
+        passes: report.tally.passes as u64,
+        sweeps: report.tally.sweeps as u64,
+        drops: report.tally.drops as u64,
+        range: report.tally.range as u64,
     }
 }
 

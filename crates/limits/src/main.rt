@@ -44,14 +44,14 @@ fn print_word(word: Word) {
 fn print(name: &[u8], r: Report) {
     io::write_all(1, name);
     io::write_all(1, b": ");
-    io::print_decimal(1, r.number as u64);
+    io::print_decimal(1, r.refusal.number as u64);
     io::write_all(1, b" ");
-    io::print_decimal(1, r.place as u64);
+    io::print_decimal(1, r.refusal.place as u64);
     let word = r.word;
     print_word(word);
-    io::print_decimal(1, r.passes as u64);
+    io::print_decimal(1, r.tally.passes as u64);
     io::write_all(1, b" ");
-    io::print_decimal(1, r.range as u64);
+    io::print_decimal(1, r.tally.range as u64);
     io::write_all(1, b"\n");
 }
 

@@ -16,7 +16,8 @@ use Rattle.method.specs.Chase.{turned, singular, negligible, steps, swep
 use Rattle.method.specs.Walk.{pass, run}
 use Rattle.method.specs.Checks.{firstOf, firstBad}
 use Rattle.method.specs.Fill.{identity}
-use Rattle.method.specs.Outcome.{Word, none, settled, stopped, Report, Outcome, accepted, outcome, plainOutcome, fullOutcome}
+use Rattle.method.specs.Report.{Word, none, settled, stopped, Report}
+use Rattle.method.specs.Outcome.{Outcome, accepted, outcome, plainOutcome, fullOutcome}
 use Rattle.method.specs.Settings.{Settings}
 use Rattle.method.specs.Defaults.{defaultTolerance, defaultAbsolute, defaultFloor}
 
@@ -47,7 +48,9 @@ wordNumber stopped = 2
 
 -- number, word, passes, sweeps, drops and range left
 abbrev pub ofReport : Report → List ℕ
-ofReport r = r .number ∷ wordNumber (r .word) ∷ r .passes ∷ r .sweeps ∷ r .drops ∷ r .range ∷ []
+ofReport r =
+    let t = r .tally in
+    r .refusal .number ∷ wordNumber (r .word) ∷ t .passes ∷ t .sweeps ∷ t .drops ∷ t .range ∷ []
 
 abbrev given : ℕ → Float → Settings
 given limit floor = record { limit = limit; credit = 50; tolerance = defaultTolerance; absolute = defaultAbsolute; floor = floor }

@@ -17,6 +17,7 @@ pub mod Settings
 pub mod Checks
 pub mod Fill
 pub mod View
+pub mod Report
 pub mod Outcome
 pub mod Defaults
 pub mod Cases

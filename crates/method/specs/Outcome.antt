@@ -12,24 +12,12 @@ use Rattle.method.specs.Floats.{pick}
 use Rattle.method.specs.Work.{Work, Shape, work, packed}
 use Rattle.method.specs.Bidiagonal.{bidiagonal}
 use Rattle.method.specs.Chase.{negligible, swept}
-use Rattle.method.specs.Walk.{Walk, Rules, State, walked}
+use Rattle.method.specs.Walk.{Rules, State, walked}
 use Rattle.method.specs.Settings.{Settings}
-use Rattle.method.specs.Checks.{Refusal, refusalOf}
+use Rattle.method.specs.Checks.{refusalOf}
+use Rattle.method.specs.Report.{Report, refused, reported}
 
 -- ---- what a call answers
-
--- `none` goes with a refusal
-pub data Word : Type 0 where
-  none settled stopped : Word
-
-pub record Report : Type 0 where
-  pub number : ℕ
-  pub place : ℕ
-  pub word : Word
-  pub passes : ℕ
-  pub sweeps : ℕ
-  pub drops : ℕ
-  pub range : ℕ
 
 -- the report, and every list that was lent, as the call leaves it
 pub record Outcome : Type 0 where
@@ -38,10 +26,6 @@ pub record Outcome : Type 0 where
 
 abbrev pub outcomeOf : Report → Work → Outcome
 outcomeOf r w = record { report = r; held = w }
-
--- number and place, the word `none`, and nothing else
-abbrev pub refused : Refusal → Report
-refused r = record { number = r .number; place = r .place; word = none; passes = 0; sweeps = 0; drops = 0; range = 0 }
 
 -- ---- the accepted run
 
@@ -60,22 +44,6 @@ rulesOf f z upper tolerance absolute =
       sweep = λ r w. swept f z upper (r - 2) w;
     }
 
--- settled where the range left is 1, stopped where it is more
-abbrev pub wordOf : ℕ → Word
-wordOf range = pick (eqb range 1) settled stopped
-
-abbrev pub reported : Walk → Report
-reported w =
-    record {
-      number = 0;
-      place = 0;
-      word = wordOf (w .range);
-      passes = w .passes;
-      sweeps = w .sweeps;
-      drops = w .drops;
-      range = w .range;
-    }
-
 -- the bidiagonal form, and then the walk
 abbrev pub walkedFrom : Format → Shape → ℕ → ℕ → Settings → Work → State Work
 walkedFrom f z rows cols s w =
@@ -85,7 +53,7 @@ walkedFrom f z rows cols s w =
 unfoldable pub accepted : Format → Bool → ℕ → ℕ → Settings → Work → Outcome
 accepted f kept rows cols s w =
     let e = walkedFrom f (packed kept rows cols) rows cols s w in
-    outcomeOf (reported (e .walk)) (e .held)
+    outcomeOf (reported e) (e .held)
 
 -- ---- the calls
 

@@ -127,7 +127,7 @@ module _ {f : Format} {floor : Float} {z z′ : Shape} {c : ℕ} {R : Work → W
 pub passes-kept :
     {f : Format} {floor : Float} {z z′ : Shape} {c : ℕ} {R : Work → Work → Type 0} (upper : Bool) (tolerance absolute : Float) (limit credit n : ℕ) (k : Walk) →
     Kept f floor z z′ c R →
-    k .range ≤ c →
+    k .tally .range ≤ c →
     (w w′ : Work) →
     R w w′ →
     Alike R (run (rulesOf f z upper tolerance absolute) limit credit n (stands k w)) (run (rulesOf f z′ upper tolerance absolute) limit credit n (stands k w′))

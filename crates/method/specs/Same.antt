@@ -9,7 +9,8 @@ use lib.Ieee.{Format}
 use Rattle.method.specs.Floats.{pick}
 use Rattle.method.specs.Work.{Work, work, packed}
 use Rattle.method.specs.Walk.Alike.{Alike}
-use Rattle.method.specs.Outcome.{card, reported, walkedFrom, accepted}
+use Rattle.method.specs.Report.Words.{reported-same}
+use Rattle.method.specs.Outcome.{card, walkedFrom, accepted}
 use Rattle.method.specs.Settings.{Settings}
 use Rattle.method.specs.Relation.{run-kept}
 use Rattle.method.specs.Relation.Parts.{Between, Parts, FactorKept, parts-kept, Equal, equal-kept, Any, any-kept}
@@ -35,4 +36,9 @@ pub accepted-agree :
     (accepted f true rows cols s w .report ≡ accepted f false rows cols s (work (w .matrix) [] []) .report)
     × (accepted f true rows cols s w .held .matrix ≡ accepted f false rows cols s (work (w .matrix) [] []) .held .matrix)
 unfolding accepted
-accepted-agree f rows cols s w = let a = runs-agree f true false rows cols s w (work (w .matrix) [] []) refl in (ap reported (a .walk), a .held .matrix)
+accepted-agree f rows cols s w =
+    let w′ = work (w .matrix) [] [] in
+    let a = runs-agree f true false rows cols s w w′ refl in
+    let e = walkedFrom f (packed true rows cols) rows cols s w in
+    let e′ = walkedFrom f (packed false rows cols) rows cols s w′ in
+    (reported-same e e′ (a .walk) (a .held .matrix), a .held .matrix)

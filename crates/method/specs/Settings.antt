@@ -24,3 +24,7 @@ mostLimit = 100000
 
 abbrev pub mostCredit : ℕ
 mostCredit = 1000
+
+-- no allowed call makes more passes
+abbrev pub mostPasses : ℕ
+mostPasses = 146000

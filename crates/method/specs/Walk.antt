@@ -10,13 +10,17 @@ use Prim.Native.Nat.{ℕ, zero, suc, _+_, _-_, _*_}
 use mathlib.Core.Bool.{Bool, true, false, _&&_}
 use lib.Dec.{ltb}
 
--- the walk's record: the range of the live corner, the counter that the limit bounds, and how many passes, sweeps and drops were made
-pub record Walk : Type 0 where
+-- what a walk counts: the range of the live corner, and how many passes, sweeps and drops were made
+pub record Tally : Type 0 where
   pub range : ℕ
-  pub counter : ℕ
   pub passes : ℕ
   pub sweeps : ℕ
   pub drops : ℕ
+
+-- the walk's record: what it counts, and the counter that the limit bounds
+pub record Walk : Type 0 where
+  pub tally : Tally
+  pub counter : ℕ
 
 -- what the data are asked: whether the coupling at a range is negligible, and what a sweep over a range makes of them
 pub record Rules (D : Type 0) : Type 0 where
@@ -31,45 +35,49 @@ pub record State (D : Type 0) : Type 0 where
 abbrev pub stands : {D : Type 0} → Walk → D → State D
 stands w d = record { walk = w; held = d }
 
--- the record at the start, over a diagonal of c entries
+-- ---- what is counted
+
+-- at the start, over a diagonal of c entries
+abbrev pub tallyBegun : ℕ → Tally
+tallyBegun c = record { range = c; passes = 0; sweeps = 0; drops = 0 }
+
+-- after a pass that drops
+abbrev pub tallyDropped : Tally → Tally
+tallyDropped t = record { range = t .range - 1; passes = t .passes + 1; sweeps = t .sweeps; drops = t .drops + 1 }
+
+-- after a pass that sweeps
+abbrev pub tallySwept : Tally → Tally
+tallySwept t = record { range = t .range; passes = t .passes + 1; sweeps = t .sweeps + 1; drops = t .drops }
+
+-- ---- the record
+
+-- at the start, over a diagonal of c entries
 abbrev pub begun : ℕ → Walk
-begun c = record { range = c; counter = 0; passes = 0; sweeps = 0; drops = 0 }
+begun c = record { tally = tallyBegun c; counter = 0 }
 
 abbrev pub start : {D : Type 0} → ℕ → D → State D
 start c d = stands (begun c) d
 
--- the record after a pass that drops: the counter rises by 1, and then falls by the credit, stopping at 0
+-- after a pass that drops: the counter rises by 1, and then falls by the credit, stopping at 0
 abbrev pub afterDrop : ℕ → Walk → Walk
-afterDrop credit w =
-    record {
-      range = w .range - 1;
-      counter = w .counter + 1 - credit;
-      passes = w .passes + 1;
-      sweeps = w .sweeps;
-      drops = w .drops + 1;
-    }
+afterDrop credit w = record { tally = tallyDropped (w .tally); counter = w .counter + 1 - credit }
 
--- the record after a pass that sweeps
+-- after a pass that sweeps
 abbrev pub afterSweep : Walk → Walk
-afterSweep w =
-    record {
-      range = w .range;
-      counter = w .counter + 1;
-      passes = w .passes + 1;
-      sweeps = w .sweeps + 1;
-      drops = w .drops;
-    }
+afterSweep w = record { tally = tallySwept (w .tally); counter = w .counter + 1 }
+
+-- ---- passes
 
 -- there is a pass to do
 abbrev pub going : ℕ → Walk → Bool
-going limit w = ltb 1 (w .range) && ltb (w .counter) limit
+going limit w = ltb 1 (w .tally .range) && ltb (w .counter) limit
 
 -- one pass: a drop leaves the data as they are
 unfoldable pub pass : {D : Type 0} → Rules D → ℕ → State D → State D
 pass rules credit s =
-    elim (rules .negligible (s .walk .range) (s .held)) [
+    elim (rules .negligible (s .walk .tally .range) (s .held)) [
       | true ↦ record { walk = afterDrop credit (s .walk); held = s .held }
-      | false ↦ record { walk = afterSweep (s .walk); held = rules .sweep (s .walk .range) (s .held) }
+      | false ↦ record { walk = afterSweep (s .walk); held = rules .sweep (s .walk .tally .range) (s .held) }
     ]
 
 -- at most so many passes

@@ -14,7 +14,8 @@ use lib.Ieee.Scale.{finite}
 use lib.ListN.{length, getD}
 use Rattle.method.specs.Work.{Work, work}
 use Rattle.method.specs.Checks.{Refusal, refusal, refusalOf}
-use Rattle.method.specs.Outcome.{Report, Outcome, outcomeOf, refused, plainOutcome, accepted}
+use Rattle.method.specs.Report.{Report, refused}
+use Rattle.method.specs.Outcome.{Outcome, outcomeOf, plainOutcome, accepted}
 use Rattle.method.specs.Defaults.{defaults, defaultTolerance, defaultAbsolute, defaultFloor}
 use Rattle.method.specs.Outcome.Reports.{accepted-true, card-most}
 use Rattle.method.specs.Checks.Readings.{FirstBadAt, BadReading, firstBad-at}

@@ -7,7 +7,7 @@ use lib.Dec.{eqb}
 use lib.ListN.{set, take, drop}
 use lib.Seq.{sets}
 use lib.Ieee.{Float, binary64, ofBits}
-use Rattle.method.specs.Outcome.{Report}
+use Rattle.method.specs.Report.{Report}
 use Rattle.survey.specs.declared.reading.Entry.{Entry}
 use Rattle.text.specs.Text.{Bytes, space, _>>=_, cut, number, pattern}
 use Rattle.survey.specs.declared.reading.Place.{Place}
@@ -53,9 +53,9 @@ surveyOf e xs = record { entry = e; readings = xs }
 
 -- the numbers of a report that have at most 6 digits
 pub record Small (r : Report) : Type 0 where
-  pub number : r .number < 1000000
-  pub place : r .place < 1000000
-  pub passes : r .passes < 1000000
-  pub sweeps : r .sweeps < 1000000
-  pub drops : r .drops < 1000000
-  pub range : r .range < 1000000
+  pub number : r .refusal .number < 1000000
+  pub place : r .refusal .place < 1000000
+  pub passes : r .tally .passes < 1000000
+  pub sweeps : r .tally .sweeps < 1000000
+  pub drops : r .tally .drops < 1000000
+  pub range : r .tally .range < 1000000

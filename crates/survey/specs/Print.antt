@@ -6,7 +6,8 @@ use Prim.Native.Nat.{ℕ, zero, suc}
 use lib.Dec.{eqb}
 use lib.ListN.{take, drop}
 use lib.Ieee.{Float, binary64, toBits}
-use Rattle.method.specs.Outcome.{Word, none, settled, stopped, Report, Outcome, plainOutcome}
+use Rattle.method.specs.Report.{Word, none, settled, stopped, Report}
+use Rattle.method.specs.Outcome.{Outcome, plainOutcome}
 use Rattle.method.specs.Defaults.{defaults}
 use Rattle.text.specs.Text.{Bytes, digits, shown, lineText}
 use Rattle.survey.specs.Form.{Survey, Reading, reading}
@@ -43,16 +44,19 @@ wordText stopped = 115 ∷ 116 ∷ 111 ∷ 112 ∷ 112 ∷ 101 ∷ 100 ∷ []
 
 -- `id word passes sweeps drops range`
 unfoldable pub reportText : ℕ → Report → Bytes
-reportText id r = lineText (shown id ∷ wordText (r .word) ∷ shown (r .passes) ∷ shown (r .sweeps) ∷ shown (r .drops) ∷ shown (r .range) ∷ [])
+reportText id r =
+    let t = r .tally in
+    lineText
+    (shown id ∷ wordText (r .word) ∷ shown (t .passes) ∷ shown (t .sweeps) ∷ shown (t .drops) ∷ shown (t .range) ∷ [])
 
 -- `id refused number place`
 unfoldable pub refusedText : ℕ → Report → Bytes
-refusedText id r = lineText (shown id ∷ refusedWord ∷ shown (r .number) ∷ shown (r .place) ∷ [])
+refusedText id r = lineText (shown id ∷ refusedWord ∷ shown (r .refusal .number) ∷ shown (r .refusal .place) ∷ [])
 
 -- the report and then the rows of the matrix; of a refusal its line alone
 unfoldable pub outcomeText : ℕ → ℕ → ℕ → Outcome → Bytes
 outcomeText id rows cols o =
-    elim (eqb (o .report .number) 0) [
+    elim (eqb (o .report .refusal .number) 0) [
       | true ↦ reportText id (o .report) ++ rowsText rows cols (o .held .matrix)
       | false ↦ refusedText id (o .report)
     ]

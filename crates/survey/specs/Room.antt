@@ -9,7 +9,8 @@ use borrow.Author.Tests.{eqb-true, eqb-false}
 use lib.Dec.{eqb}
 use lib.Ieee.{Float, binary64}
 use lib.ListN.{length, length-append}
-use Rattle.method.specs.Outcome.{Word, none as noWord, settled, stopped, Outcome, plainOutcome}
+use Rattle.method.specs.Report.{Word, none as noWord, settled, stopped}
+use Rattle.method.specs.Outcome.{Outcome, plainOutcome}
 use Rattle.method.specs.Defaults.{defaults}
 use Rattle.survey.specs.declared.reading.Entry.{Entry}
 use Rattle.text.specs.Text.{Bytes, LF, _>>=_, cut, shown, ending, lineText}
@@ -61,22 +62,24 @@ module _ (e : Entry) (xs : List Float) (r : InRange e) (l : length xs ≡ e .row
 
   survey-most : length (surveyText (surveyOf e xs)) ≤ 39216
   unfolding surveyText reportText refusedText
-  survey-most = go (eqb (told .report .number) 0) refl (small (e .rows) (e .cols) xs table) (same-size (e .rows) (e .cols) xs table)
+  survey-most = go (eqb (told .report .refusal .number) 0) refl (small (e .rows) (e .cols) xs table) (same-size (e .rows) (e .cols) xs table)
     where
       id-few : e .id < 1000000
       id-few = omega (arith, r .id-most)
 
-      go : (b : Bool) → eqb (told .report .number) 0 ≡ b → Small (told .report) → length (told .held .matrix) ≡ length xs → length (outcomeText (e .id) (e .rows) (e .cols) told) ≤ 39216
+      go :
+          (b : Bool) → eqb (told .report .refusal .number) 0 ≡ b → Small (told .report) →
+          length (told .held .matrix) ≡ length xs → length (outcomeText (e .id) (e .rows) (e .cols) told) ≤ 39216
       go true x s m =
-          let w = line-most (shown (e .id) ∷ wordText (told .report .word) ∷ shown (told .report .passes) ∷ shown (told .report .sweeps) ∷ shown (told .report .drops) ∷ shown (told .report .range) ∷ [])
-          (shown-most (e .id) id-few, (word-most (told .report .word), (shown-most (told .report .passes) (s .passes), (shown-most (told .report .sweeps) (s .sweeps), (shown-most (told .report .drops) (s .drops), (shown-most (told .report .range) (s .range), tt)))))) in
+          let w = line-most (shown (e .id) ∷ wordText (told .report .word) ∷ shown (told .report .tally .passes) ∷ shown (told .report .tally .sweeps) ∷ shown (told .report .tally .drops) ∷ shown (told .report .tally .range) ∷ [])
+          (shown-most (e .id) id-few, (word-most (told .report .word), (shown-most (told .report .tally .passes) (s .passes), (shown-most (told .report .tally .sweeps) (s .sweeps), (shown-most (told .report .tally .drops) (s .drops), (shown-most (told .report .tally .range) (s .range), tt)))))) in
           let q = length-rows (e .rows) (e .cols) (told .held .matrix) (omega (arith, m, l)) in
-          rw (outcome-accepted (e .id) (e .rows) (e .cols) told (eqb-true (told .report .number) 0 x))
+          rw (outcome-accepted (e .id) (e .rows) (e .cols) told (eqb-true (told .report .refusal .number) 0 x))
           (omega (arith, length-append (reportText (e .id) (told .report)) (rowsText (e .rows) (e .cols) (told .held .matrix)), w, q, area e r .0))
       go false x s m =
-          let w = line-most (shown (e .id) ∷ refusedWord ∷ shown (told .report .number) ∷ shown (told .report .place) ∷ [])
-          (shown-most (e .id) id-few, (omega arith, (shown-most (told .report .number) (s .number), (shown-most (told .report .place) (s .place), tt)))) in
-          rw (outcome-refused (e .id) (e .rows) (e .cols) told (eqb-false (told .report .number) 0 x)) (omega (arith, w))
+          let w = line-most (shown (e .id) ∷ refusedWord ∷ shown (told .report .refusal .number) ∷ shown (told .report .refusal .place) ∷ [])
+          (shown-most (e .id) id-few, (omega arith, (shown-most (told .report .refusal .number) (s .number), (shown-most (told .report .refusal .place) (s .place), tt)))) in
+          rw (outcome-refused (e .id) (e .rows) (e .cols) told (eqb-false (told .report .refusal .number) 0 x)) (omega (arith, w))
 
 -- ---- line numbers
 

@@ -10,7 +10,8 @@ use lib.ListN.{length, take, drop, getD}
 use lib.Seq.{sets, sets-eq, take-at, drop-at}
 use Rattle.method.specs.Work.{work}
 use Rattle.method.specs.Checks.{refusal}
-use Rattle.method.specs.Outcome.{Outcome, outcomeOf, refused, accepted}
+use Rattle.method.specs.Report.{refused}
+use Rattle.method.specs.Outcome.{Outcome, outcomeOf, accepted}
 use Rattle.method.specs.Defaults.{defaults}
 use Rattle.method.specs.Checks.Readings.{FirstBadAt}
 use Rattle.method.specs.Outcome.Refused.{accepted-number}

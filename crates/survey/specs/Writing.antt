@@ -120,13 +120,15 @@ unfolding refusalText
 refusal-is n h = rw (refusalText, ne-eqb n 0 (λ z. omega arith))
 
 module _ (id rows cols : ℕ) (o : Outcome) where
-  pub outcome-accepted : o .report .number ≡ 0 → outcomeText id rows cols o ≡ reportText id (o .report) ++ rowsText rows cols (o .held .matrix)
+  pub outcome-accepted :
+      o .report .refusal .number ≡ 0 →
+      outcomeText id rows cols o ≡ reportText id (o .report) ++ rowsText rows cols (o .held .matrix)
   unfolding outcomeText
-  outcome-accepted e = rw (outcomeText, eq-eqb (o .report .number) 0 e)
+  outcome-accepted e = rw (outcomeText, eq-eqb (o .report .refusal .number) 0 e)
 
-  pub outcome-refused : (o .report .number ≡ 0 → ⊥) → outcomeText id rows cols o ≡ refusedText id (o .report)
+  pub outcome-refused : (o .report .refusal .number ≡ 0 → ⊥) → outcomeText id rows cols o ≡ refusedText id (o .report)
   unfolding outcomeText
-  outcome-refused e = rw (outcomeText, ne-eqb (o .report .number) 0 e)
+  outcome-refused e = rw (outcomeText, ne-eqb (o .report .refusal .number) 0 e)
 
 -- only the first r * c readings are written
 pub rows-taken : (r c : ℕ) (m : List Float) → r * c ≤ length m → rowsText r c (take (r * c) m) ≡ rowsText r c m

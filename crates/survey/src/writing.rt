@@ -6,7 +6,7 @@ ghost use Prim.Native.Nat.{_+_, _*_, _<_, _≤_};
 ghost use lib.ListN.{length, take, drop};
 ghost use Rattle.method.specs.Work.{work};
 ghost use Rattle.method.specs.Outcome.{outcomeOf};
-ghost use Rattle.svd.specs.Values.{reportOf, wordOf};
+ghost use Rattle.svd.specs.Values.{reportOf, wordIn};
 ghost use Rattle.text.specs.Text.{space};
 ghost use Rattle.text.specs.Writing.{Wrote};
 ghost use Rattle.survey.specs.Print.{rowText, rowsText, wordText, reportText, refusedText, outcomeText, refusalText};
@@ -20,7 +20,7 @@ use text::writing::put_hex;
 
 // A space, and the report's word.
 fn put_word(out: &mut [u8], at: usize, word: Word) -> usize
-    ensures { λ r. ⌜ Wrote (now (out .entry)) at (space ∷ wordText (wordOf word)) (now (out .exit)) r ⌝ }
+    ensures { λ r. ⌜ Wrote (now (out .entry)) at (space ∷ wordText (wordIn word)) (now (out .exit)) r ⌝ }
 {
     match word {
         Word::None => put(out, at, b" none"),
@@ -72,10 +72,10 @@ fn put_report(out: &mut [u8], at: usize, id: u64, report: Report) -> usize
     let word = report.word;
     let a = put_decimal(out, at, id);
     let b = put_word(out, a, word);
-    let c = put_field(out, b, report.passes as u64);
-    let d = put_field(out, c, report.sweeps as u64);
-    let e = put_field(out, d, report.drops as u64);
-    let f = put_field(out, e, report.range as u64);
+    let c = put_field(out, b, report.tally.passes as u64);
+    let d = put_field(out, c, report.tally.sweeps as u64);
+    let e = put_field(out, d, report.tally.drops as u64);
+    let f = put_field(out, e, report.tally.range as u64);
     put(out, f, b"\n")
 }
 
@@ -85,8 +85,8 @@ fn put_refused(out: &mut [u8], at: usize, id: u64, report: Report) -> usize
 {
     let a = put_decimal(out, at, id);
     let b = put(out, a, b" refused");
-    let c = put_field(out, b, report.number as u64);
-    let d = put_field(out, c, report.place as u64);
+    let c = put_field(out, b, report.refusal.number as u64);
+    let d = put_field(out, c, report.refusal.place as u64);
     put(out, d, b"\n")
 }
 
@@ -100,7 +100,7 @@ pub(crate) fn put_outcome(out: &mut [u8], at: usize, e: Entry, report: Report, m
 {
     let rows = e.rows;
     let cols = e.cols;
-    if report.number == 0 {
+    if report.refusal.number == 0 {
         let a = put_report(out, at, e.id, report);
         put_rows(out, a, m, rows, cols)
     } else {

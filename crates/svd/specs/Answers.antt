@@ -4,44 +4,46 @@ use mathlib.Core.List.{List, []}
 use Prim.Native.Nat.{ℕ}
 use lib.Ieee.{Float, binary64}
 use Rattle.method.specs.Work.{Work, work}
-use Rattle.method.specs.Outcome as Outcome
+use Rattle.method.specs.Checks as Checks
+use Rattle.method.specs.Walk as Walk
+use Rattle.method.specs.Report as Report
 use Rattle.method.specs.Outcome.{Outcome, outcomeOf, fullOutcome, plainOutcome}
 use Rattle.checks.specs.declared.settings.Settings.{Settings}
+use Rattle.checks.specs.declared.refusal.Refusal.{Refusal}
 use Rattle.checks.specs.Values.{settingsOf}
+use Rattle.svd.specs.declared.tally.Tally.{Tally}
 use Rattle.svd.specs.declared.report.Report.{Report}
 use Rattle.svd.specs.declared.report.Word.{Word}
 use Rattle.svd.specs.declared.report.Word.the-variants.{None, Settled, Stopped}
-use Rattle.svd.specs.Values.{wordOf, reportOf}
+use Rattle.svd.specs.Values.{wordIn, reportOf}
 
 -- ---- the report
 
 -- the word is told by the method's word
-abbrev fromWord : Outcome.Word → Word
-fromWord Outcome.none = None
-fromWord Outcome.settled = Settled
-fromWord Outcome.stopped = Stopped
+abbrev fromWord : Report.Word → Word
+fromWord Report.none = None
+fromWord Report.settled = Settled
+fromWord Report.stopped = Stopped
 
-from-word : (w : Word) → fromWord (wordOf w) ≡ w
+from-word : (w : Word) → fromWord (wordIn w) ≡ w
 from-word None = refl
 from-word Settled = refl
 from-word Stopped = refl
 
+-- the refusal and the tally by the method's
+abbrev fromRefusal : Checks.Refusal → Refusal
+fromRefusal r = record { number = r .number; place = r .place }
+
+abbrev fromTally : Walk.Tally → Tally
+fromTally t = record { range = t .range; passes = t .passes; sweeps = t .sweeps; drops = t .drops }
+
 -- the report by the method's report
-abbrev fromReport : Outcome.Report → Report
-fromReport r =
-    record {
-      number = r .number;
-      place = r .place;
-      word = fromWord (r .word);
-      passes = r .passes;
-      sweeps = r .sweeps;
-      drops = r .drops;
-      range = r .range;
-    }
+abbrev fromReport : Report.Report → Report
+fromReport r = record { refusal = fromRefusal (r .refusal); word = fromWord (r .word); tally = fromTally (r .tally) }
 
 -- r with another word
 abbrev worded : Report → Word → Report
-worded r w = record { number = r .number; place = r .place; word = w; passes = r .passes; sweeps = r .sweeps; drops = r .drops; range = r .range }
+worded r w = record { refusal = r .refusal; word = w; tally = r .tally }
 
 from-report : (r : Report) → fromReport (reportOf r) ≡ r
 from-report r = ap (worded r) (from-word (r .word))

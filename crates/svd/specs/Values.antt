@@ -9,14 +9,17 @@ use Rattle.method.specs.Reflection.{Reflection}
 use Rattle.method.specs.Bidiagonal.{columnReflection, headed}
 use Rattle.method.specs.Work.{Work, Shape as Sizes}
 use Rattle.method.specs.Lengths.{SameLengths}
-use Rattle.method.specs.Walk.{Walk as Counts}
-use Rattle.method.specs.Positions.{Corner}
-use Rattle.method.specs.Outcome as Outcome
+use Rattle.method.specs.Walk as Walk
+use Rattle.method.specs.Positions as Positions
+use Rattle.method.specs.Report as Report
+use Rattle.checks.specs.Values.{refusalIn}
 use Rattle.svd.specs.declared.givens.Rotation.{Rotation}
 use Rattle.svd.specs.declared.report.Report.{Report}
 use Rattle.svd.specs.declared.report.Word.{Word}
 use Rattle.svd.specs.declared.report.Word.the-variants.{None, Settled, Stopped}
 use Rattle.svd.specs.declared.shape.Shape.{Shape}
+use Rattle.svd.specs.declared.tally.Tally.{Tally}
+use Rattle.svd.specs.declared.primitives.Corner.{Corner}
 use Rattle.svd.specs.declared.primitives.Walk.{Walk}
 
 -- a rotation
@@ -31,32 +34,27 @@ reflection entries vector tau = record { entries = entries; vector = vector; tau
 abbrev pub sizes : Shape → Sizes
 sizes z = record { rows = z .rows; cols = z .cols; stride = z .stride; urows = z .urows; vrows = z .vrows }
 
--- the five counts of a walk's record
-abbrev pub counts : Walk → Counts
-counts w = record { range = w .range; counter = w .counter; passes = w .passes; sweeps = w .sweeps; drops = w .drops }
+-- what a walk counts
+abbrev pub tallyOf : Tally → Walk.Tally
+tallyOf t = record { range = t .range; passes = t .passes; sweeps = t .sweeps; drops = t .drops }
 
--- the six counters that the drop helper of document 004 keeps
-abbrev pub corner : Walk → Corner
-corner w = record { range = w .range; inter = w .inter; coupling = w .e1; topLeft = w .tl; bottomLeft = w .bl; counter = w .counter }
+-- the walk's record
+abbrev pub walkOf : Walk → Walk.Walk
+walkOf w = record { tally = tallyOf (w .tally); counter = w .counter }
+
+-- where its corner stands
+abbrev pub cornerIn : Corner → Positions.Corner
+cornerIn c = record { inter = c .inter; coupling = c .e1; topLeft = c .tl; bottomLeft = c .bl }
 
 -- the report's word
-abbrev pub wordOf : Word → Outcome.Word
-wordOf None = Outcome.none
-wordOf Settled = Outcome.settled
-wordOf Stopped = Outcome.stopped
+abbrev pub wordIn : Word → Report.Word
+wordIn None = Report.none
+wordIn Settled = Report.settled
+wordIn Stopped = Report.stopped
 
 -- the report
-abbrev pub reportOf : Report → Outcome.Report
-reportOf r =
-    record {
-      number = r .number;
-      place = r .place;
-      word = wordOf (r .word);
-      passes = r .passes;
-      sweeps = r .sweeps;
-      drops = r .drops;
-      range = r .range;
-    }
+abbrev pub reportOf : Report → Report.Report
+reportOf r = record { refusal = refusalIn (r .refusal); word = wordIn (r .word); tally = tallyOf (r .tally) }
 
 -- what making the reflection of column j from row i on leaves in the table and in the vector, and its tau
 pub record Taken (floor : Float) (rows stride i j : ℕ) (b b′ p : List Float) (tau : Float) : Type 0 where

@@ -20,7 +20,7 @@ ghost use Rattle.method.specs.Walk.Loop.{Room};
 ghost use Rattle.method.specs.Positions.{couplingPlace};
 ghost use Rattle.method.specs.Chase.{along, turned, pushed, stepped, steps, negligible, firstRotation, swept};
 ghost use Rattle.method.specs.Outcome.{rulesOf};
-ghost use Rattle.svd.specs.Values.{rotation, sizes, counts, Lending, Inside, Block};
+ghost use Rattle.svd.specs.Values.{rotation, sizes, walkOf, Lending, Inside, Block};
 ghost use Rattle.svd.specs.Passes.{Standing};
 
 // Entry j of line i, a row or a column.
@@ -174,19 +174,37 @@ pub(crate) fn decomp_givens(
     s: Settings,
 ) -> Walk
     requires { ⌜ Lending (sizes z) (work (now b) (now u) (now v)) × Standing (sizes z) upper n first ⌝ }
-    ensures { λ r. ⌜ stands (counts r) (work (now (b .exit)) (now (u .exit)) (now (v .exit))) ≡
+    ensures { λ r. ⌜ stands (walkOf r) (work (now (b .exit)) (now (u .exit)) (now (v .exit))) ≡
         run (rulesOf binary64 (sizes z) upper (s .tolerance) (s .absolute)) (s .limit) (s .credit) n
-        (stands (counts first) (work (now (b .entry)) (now (u .entry)) (now (v .entry)))) ⌝ }
+        (stands (walkOf first) (work (now (b .entry)) (now (u .entry)) (now (v .entry)))) ⌝ }
 {
     let mut walk = first;
     let mut made = 0;
-    while made < n && walk.range > 1 && walk.counter < s.limit {
+    while made < n && walk.tally.range > 1 && walk.counter < s.limit {
         made += 1;
-        let drops = is_negligible(b, z.stride, upper, walk.inter, walk.e1, walk.tl, walk.bl, s);
+        let drops = is_negligible(
+            b,
+            z.stride,
+            upper,
+            walk.corner.inter,
+            walk.corner.e1,
+            walk.corner.tl,
+            walk.corner.bl,
+            s,
+        );
         if drops {
             walk = walk.drop(z.stride, s.credit);
         } else {
-            givens_iteration(b, u, v, z, upper, walk.inter, walk.tl, walk.bl);
+            givens_iteration(
+                b,
+                u,
+                v,
+                z,
+                upper,
+                walk.corner.inter,
+                walk.corner.tl,
+                walk.corner.bl,
+            );
             walk = walk.sweep();
         }
     }

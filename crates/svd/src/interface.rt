@@ -15,7 +15,10 @@ ghost use Rattle.method.specs.Work.{work};
 ghost use Rattle.method.specs.Walk.{stands};
 ghost use Rattle.method.specs.Outcome.{card, outcomeOf, walkedFrom, plainOutcome, fullOutcome};
 ghost use Rattle.checks.specs.Values.{settingsOf};
-ghost use Rattle.svd.specs.Values.{sizes, counts, reportOf, Lending, Inside};
+ghost use Rattle.svd.specs.Values.{sizes, walkOf, reportOf, Lending, Inside};
+
+// No allowed call makes more passes.
+const MOST_PASSES: usize = 146000;
 
 fn smaller_size(rows: usize, cols: usize) -> usize
     requires { ⌜ (1 ≤ rows) × (1 ≤ cols) ⌝ }
@@ -28,7 +31,7 @@ fn smaller_size(rows: usize, cols: usize) -> usize
 fn decompose(b: &mut [f64], u: &mut [f64], v: &mut [f64], z: Shape, s: Settings) -> Walk
     requires { ⌜ Inside (sizes z) 1 × (s .limit ≤ 100000) × (s .credit ≤ 1000)
         × Lending (sizes z) (work (now b) (now u) (now v)) ⌝ }
-    ensures { λ r. ⌜ stands (counts r) (work (now (b .exit)) (now (u .exit)) (now (v .exit))) ≡
+    ensures { λ r. ⌜ stands (walkOf r) (work (now (b .exit)) (now (u .exit)) (now (v .exit))) ≡
         walkedFrom binary64 (sizes z) (z .rows) (z .cols) (settingsOf s)
         (work (now (b .entry)) (now (u .entry)) (now (v .entry))) ⌝ }
 {
@@ -36,7 +39,7 @@ fn decompose(b: &mut [f64], u: &mut [f64], v: &mut [f64], z: Shape, s: Settings)
     let card = smaller_size(z.rows, z.cols);
     bidiagonal(b, u, v, z, upper, card, s.floor);
     let first = Walk::new(upper, card, z.stride);
-    decomp_givens(b, u, v, z, upper, first, 146000, s)
+    decomp_givens(b, u, v, z, upper, first, MOST_PASSES, s)
 }
 
 // The split with U and V kept: each is multiplied from the right as it stands, so a caller who
@@ -55,7 +58,7 @@ pub fn full_svd_decomposition(
 {
     let refusal = first_refusal(b, u, v, true, rows, cols, settings);
     if refusal.number != 0 {
-        return Report::refused(refusal.number, refusal.place);
+        return Report::refused(refusal);
     }
     let z = Shape {
         rows: rows,
@@ -65,7 +68,7 @@ pub fn full_svd_decomposition(
         vrows: cols,
     };
     let walk = decompose(b, u, v, z, settings);
-    Report::accepted(walk)
+    Report::accepted(walk, b)
 }
 // The split of the table alone.
 pub fn svd_decomposition(b: &mut [f64], rows: usize, cols: usize, settings: Settings) -> Report
@@ -76,7 +79,7 @@ pub fn svd_decomposition(b: &mut [f64], rows: usize, cols: usize, settings: Sett
     let mut v = [0.0f64; 0];
     let unfit = first_refusal(b, &u, &v, false, rows, cols, settings);
     if unfit.number != 0 {
-        return Report::refused(unfit.number, unfit.place);
+        return Report::refused(unfit);
     }
     let z = Shape {
         rows: rows,
@@ -86,5 +89,5 @@ pub fn svd_decomposition(b: &mut [f64], rows: usize, cols: usize, settings: Sett
         vrows: 0,
     };
     let walk = decompose(b, &mut u, &mut v, z, settings);
-    Report::accepted(walk)
+    Report::accepted(walk, b)
 }

@@ -6,8 +6,9 @@ ghost use lib.Ieee.{binary64};
 ghost use Rattle.method.specs.Chase.{singular};
 ghost use Rattle.method.specs.Walk.{begun, afterDrop, afterSweep};
 ghost use Rattle.method.specs.Walk.Loop.{Room};
-ghost use Rattle.method.specs.Positions.{cornerStart, cornerDropped, counted};
-ghost use Rattle.svd.specs.Values.{counts, corner};
+ghost use Rattle.method.specs.Positions.{cornerOf, cornerDropped};
+ghost use Rattle.svd.specs.Values.{walkOf, cornerIn};
+use crate::tally::Tally;
 
 // The eigenvalue of M'M nearest to its last entry, for M of rows (m00, m01) and (m10, m11).
 pub(crate) fn singular(m00: f64, m01: f64, m10: f64, m11: f64) -> f64
@@ -28,85 +29,99 @@ fn saturating_sub(a: usize, b: usize) -> usize
     if b < a { a - b } else { 0 }
 }
 
-// Where the walk stands: the live corner's range, its interior, the places of the coupling and of
-// the last 2 x 2's left entries, the counter that the limit bounds; and the passes made so far,
-// each a sweep or a drop.
-pub struct Walk {
-    pub range: usize,
+// Where the live corner stands: its interior, and the places of the coupling and of the last 2 x 2's
+// left entries.
+pub struct Corner {
     pub inter: usize,
     pub e1: usize,
     pub tl: usize,
     pub bl: usize,
+}
+
+impl Corner {
+    // The corner of a range.
+    pub(crate) fn of_range(upper: bool, range: usize, stride: usize) -> Corner
+        requires { ⌜ (range ≤ 48) × (stride ≤ 64) ⌝ }
+        ensures { λ r. ⌜ cornerIn r ≡ cornerOf upper stride range ⌝ }
+    {
+        let k = saturating_sub(range, 2);
+        let tl = k * stride + k;
+        let bl = (k + 1) * stride + k;
+        if upper {
+            return Corner {
+                inter: k,
+                e1: k * stride + (k + 1),
+                tl: tl,
+                bl: bl,
+            };
+        }
+        Corner {
+            inter: k,
+            e1: bl,
+            tl: tl,
+            bl: bl,
+        }
+    }
+
+    // The corner after a drop.
+    pub(crate) fn dropped(self, stride: usize) -> Corner
+        requires { ⌜ stride ≤ 64 ⌝ }
+        ensures { λ r. ⌜ cornerIn r ≡ cornerDropped stride (cornerIn self) ⌝ }
+    {
+        let shift = stride + 1;
+        Corner {
+            inter: saturating_sub(self.inter, 1),
+            e1: saturating_sub(self.e1, shift),
+            tl: saturating_sub(self.tl, shift),
+            bl: saturating_sub(self.bl, shift),
+        }
+    }
+}
+
+// The walk's record: what it counts, the counter that the limit bounds, and where the corner stands.
+pub struct Walk {
+    pub tally: Tally,
     pub counter: usize,
-    pub passes: usize,
-    pub sweeps: usize,
-    pub drops: usize,
+    pub corner: Corner,
 }
 
 impl Walk {
     // The record at the start, over a diagonal of `card` entries.
     pub(crate) fn new(upper: bool, card: usize, stride: usize) -> Walk
         requires { ⌜ (card ≤ 48) × (stride ≤ 64) ⌝ }
-        ensures { λ r. ⌜ (counts r ≡ begun card) × (corner r ≡ cornerStart upper stride card) ⌝ }
+        ensures { λ r. ⌜ (walkOf r ≡ begun card) × (cornerIn (r .corner) ≡ cornerOf upper stride card) ⌝ }
     {
-        let k = saturating_sub(card, 2);
-        let tl = k * stride + k;
-        let bl = (k + 1) * stride + k;
-        if upper {
-            return Walk {
-                range: card,
-                inter: k,
-                e1: k * stride + (k + 1),
-                tl: tl,
-                bl: bl,
-                counter: 0,
-                passes: 0,
-                sweeps: 0,
-                drops: 0,
-            };
-        }
         Walk {
-            range: card,
-            inter: k,
-            e1: bl,
-            tl: tl,
-            bl: bl,
+            tally: Tally::begun(card),
             counter: 0,
-            passes: 0,
-            sweeps: 0,
-            drops: 0,
+            corner: Corner::of_range(upper, card, stride),
         }
     }
 
     // The record after a pass that drops.
     pub(crate) fn drop(self, stride: usize, credit: usize) -> Walk
-        requires { ⌜ (1 < self .range) × (stride ≤ 64) × Room 1 (counts self) ⌝ }
-        ensures { λ r. ⌜ (counts r ≡ afterDrop credit (counts self))
-            × (corner r ≡ cornerDropped stride credit (counted (corner self))) ⌝ }
+        requires { ⌜ (1 < self .tally .range) × (stride ≤ 64) × Room 1 (walkOf self) ⌝ }
+        ensures { λ r. ⌜ (walkOf r ≡ afterDrop credit (walkOf self))
+            × (cornerIn (r .corner) ≡ cornerDropped stride (cornerIn (self .corner))) ⌝ }
     {
-        let shift = stride + 1;
+        let tally = self.tally;
+        let corner = self.corner;
         Walk {
-            range: self.range - 1,
-            inter: saturating_sub(self.inter, 1),
-            e1: saturating_sub(self.e1, shift),
-            tl: saturating_sub(self.tl, shift),
-            bl: saturating_sub(self.bl, shift),
+            tally: tally.dropped(),
             counter: saturating_sub(self.counter + 1, credit),
-            passes: self.passes + 1,
-            sweeps: self.sweeps,
-            drops: self.drops + 1,
+            corner: corner.dropped(stride),
         }
     }
 
-    // The record after a pass that sweeps.
+    // The record after a pass that sweeps: the corner stays where it is.
     pub(crate) fn sweep(self) -> Walk
-        requires { ⌜ Room 1 (counts self) ⌝ }
-        ensures { λ r. ⌜ (counts r ≡ afterSweep (counts self)) × (corner r ≡ counted (corner self)) ⌝ }
+        requires { ⌜ Room 1 (walkOf self) ⌝ }
+        ensures { λ r. ⌜ (walkOf r ≡ afterSweep (walkOf self)) × (r .corner ≡ self .corner) ⌝ }
     {
+        let tally = self.tally;
         let mut next = self;
+        next.tally = tally.swept();
         next.counter = self.counter + 1;
-        next.passes = self.passes + 1;
-        next.sweeps = self.sweeps + 1;
         next
     }
 }

@@ -1,10 +1,14 @@
 // What a call answers.
 ghost use mathlib.Core.Path.{_≡_};
-ghost use Prim.Native.Nat.{_≤_, _<_};
-ghost use Rattle.method.specs.Checks.{refusal};
-ghost use Rattle.method.specs.Outcome.{refused, reported};
-ghost use Rattle.svd.specs.Values.{reportOf, counts};
+ghost use mathlib.Core.List.{[]};
+ghost use Rattle.method.specs.Work.{work};
+ghost use Rattle.method.specs.Walk.{stands};
+ghost use Rattle.method.specs.Report.{refused, reported};
+ghost use Rattle.checks.specs.Values.{refusalIn};
+ghost use Rattle.svd.specs.Values.{reportOf, walkOf};
 use crate::primitives::Walk;
+use crate::tally::Tally;
+use checks::refusal::Refusal;
 
 // None goes with a refusal. Settled: one entry of the diagonal is left, every coupling was found
 // negligible. Stopped: the limit ran out before.
@@ -14,49 +18,42 @@ pub enum Word {
     Stopped,
 }
 
-// The number of the refusal, or 0; its place; and of an accepted call the word, the passes made,
-// how many of them were sweeps and drops, and the range left. All 0 in a refusal but number and
-// place.
+// The refusal, with number 0 where there is none; and of an accepted call the word and what the walk
+// counted, which are None and zeros in a refusal.
 pub struct Report {
-    pub number: usize,
-    pub place: usize,
+    pub refusal: Refusal,
     pub word: Word,
-    pub passes: usize,
-    pub sweeps: usize,
-    pub drops: usize,
-    pub range: usize,
+    pub tally: Tally,
 }
 
 impl Report {
-    pub(crate) fn refused(number: usize, place: usize) -> Report
-        ensures { λ r. ⌜ reportOf r ≡ refused (refusal number place) ⌝ }
+    pub(crate) fn refused(refusal: Refusal) -> Report
+        ensures { λ r. ⌜ reportOf r ≡ refused (refusalIn refusal) ⌝ }
     {
         Report {
-            number: number,
-            place: place,
+            refusal: refusal,
             word: Word::None,
-            passes: 0,
-            sweeps: 0,
-            drops: 0,
-            range: 0,
+            tally: Tally::begun(0),
         }
     }
 
-    pub(crate) fn accepted(walk: Walk) -> Report
-        ensures { λ r. ⌜ reportOf r ≡ reported (counts walk) ⌝ }
+    // The report of the state that a walk came to: its record, and the table as it stands, of which
+    // the word says nothing today.
+    pub(crate) fn accepted(walk: Walk, b: &[f64]) -> Report
+        ensures { λ r. ⌜ reportOf r ≡ reported (stands (walkOf walk) (work (now (b .entry)) [] [])) ⌝ }
     {
+        let tally = walk.tally;
         let mut word = Word::Stopped;
-        if walk.range == 1 {
+        if tally.range == 1 {
             word = Word::Settled;
         }
         Report {
-            number: 0,
-            place: 0,
+            refusal: Refusal {
+                number: 0,
+                place: 0,
+            },
             word: word,
-            passes: walk.passes,
-            sweeps: walk.sweeps,
-            drops: walk.drops,
-            range: walk.range,
+            tally: tally,
         }
     }
 }

@@ -5,29 +5,29 @@
 mod bits;
 mod replay;
 mod stored;
-mod tally;
+mod totals;
 
 use crate::replay::Seen;
 use crate::replay::next_run;
-use crate::tally::Tally;
+use crate::totals::Totals;
 
 // Replays the next run and counts it.
-fn step(tally: Tally) -> Tally {
+fn step(totals: Totals) -> Totals {
     match next_run() {
-        Seen::End => tally.ended(),
-        Seen::Malformed => tally.malformed(),
-        Seen::Run(made) => tally.counted(made),
+        Seen::End => totals.ended(),
+        Seen::Malformed => totals.malformed(),
+        Seen::Run(made) => totals.counted(made),
     }
 }
 
 // A proved loop has to end, and nothing says that the input does: so the turns are counted down from
 // a number that no input uses up.
 fn main() {
-    let mut tally = Tally::new();
+    let mut totals = Totals::new();
     let mut turns = u64::MAX;
-    while turns > 0 && tally.more {
-        tally = step(tally);
+    while turns > 0 && totals.more {
+        totals = step(totals);
         turns -= 1;
     }
-    tally.print();
+    totals.print();
 }

@@ -49,13 +49,13 @@ fn word_number(word: Word) -> u64 {
 // Whether the report is the stored one.
 fn report_agrees(r: Report, answer: Answer) -> bool {
     let word = r.word;
-    r.number as u64 == answer.number
-        && r.place as u64 == answer.place
+    r.refusal.number as u64 == answer.number
+        && r.refusal.place as u64 == answer.place
         && word_number(word) == answer.word
-        && r.passes as u64 == answer.passes
-        && r.sweeps as u64 == answer.sweeps
-        && r.drops as u64 == answer.drops
-        && r.range as u64 == answer.range
+        && r.tally.passes as u64 == answer.passes
+        && r.tally.sweeps as u64 == answer.sweeps
+        && r.tally.drops as u64 == answer.drops
+        && r.tally.range as u64 == answer.range
 }
 
 // The plain call on b, which is to leave what b2 holds.

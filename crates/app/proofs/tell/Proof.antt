@@ -1,4 +1,4 @@
--- Field by field, the word by its number. Assumes nothing.
+-- `tell` meets its contract: field by field, the word by its number. Assumes nothing.
 use borrow.Author.Needs.{needs}
 use mathlib.Core.Path.{refl}
 use Rattle.app.proofs.tell.Statement.{statement}

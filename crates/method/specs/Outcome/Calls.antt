@@ -11,8 +11,9 @@ use lib.Ieee.{Format}
 use Rattle.method.specs.Work.{Work, work}
 use Rattle.method.specs.Walk.Counts.{enough-most}
 use Rattle.method.specs.Checks.{refusalOf}
-use Rattle.method.specs.Outcome.{settled, outcome, plainOutcome, fullOutcome}
-use Rattle.method.specs.Settings.{Settings}
+use Rattle.method.specs.Report.{settled}
+use Rattle.method.specs.Outcome.{outcome, plainOutcome, fullOutcome}
+use Rattle.method.specs.Settings.{Settings, mostPasses}
 use Rattle.method.specs.Checks.Table.{clear, fit}
 use Rattle.method.specs.Outcome.Refused.{accepted-outcome}
 use Rattle.method.specs.Outcome.Reports.{accepted-true, accepted-settled, atLimit, card-most}
@@ -63,8 +64,11 @@ settled-stays f kept rows cols s w n h most e q =
     rw (accepted-outcome f kept rows cols (atLimit n s) w (limit-accepts kept rows cols s w n most e), accepted-outcome f kept rows cols s w e)
     (accepted-settled f kept rows cols s w n h (rw (accepted-outcome f kept rows cols s w e) at q))
 
--- the passes of an accepted run are at most 146,000
-pub passes-most : (f : Format) (kept : Bool) (rows cols : ℕ) (s : Settings) (w : Work) → refusalOf kept rows cols s w .number ≡ 0 → outcome f kept rows cols s w .report .passes ≤ 146000
+-- the passes of an accepted run are at most `mostPasses`
+pub passes-most :
+    (f : Format) (kept : Bool) (rows cols : ℕ) (s : Settings) (w : Work) →
+    refusalOf kept rows cols s w .number ≡ 0 →
+    outcome f kept rows cols s w .report .tally .passes ≤ mostPasses
 passes-most f kept rows cols s w e =
     let k = fit kept rows cols s w e in
     rw (accepted-outcome f kept rows cols s w e)

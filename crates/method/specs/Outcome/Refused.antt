@@ -9,7 +9,8 @@ use borrow.Author.Tests.{eqb-true, eqb-false, eq-eqb, ne-eqb}
 use Rattle.method.specs.Work.{Work}
 use Rattle.method.specs.Settings.{Settings}
 use Rattle.method.specs.Checks.{refusalOf}
-use Rattle.method.specs.Outcome.{outcomeOf, refused, accepted, outcome}
+use Rattle.method.specs.Report.{refused}
+use Rattle.method.specs.Outcome.{outcomeOf, accepted, outcome}
 
 module _ (f : Format) (kept : Bool) (rows cols : ℕ) (s : Settings) (w : Work) where
   -- a refusal leaves every list as it was, and carries its number, its place and the word `none` alone
@@ -23,14 +24,16 @@ module _ (f : Format) (kept : Bool) (rows cols : ℕ) (s : Settings) (w : Work) 
   accepted-outcome e = rw (eq-eqb (refusalOf kept rows cols s w .number) 0 e, outcome)
 
   -- an accepted run reports number 0
-  pub accepted-number : accepted f kept rows cols s w .report .number ≡ 0
+  pub accepted-number : accepted f kept rows cols s w .report .refusal .number ≡ 0
   unfolding accepted
   accepted-number = refl
 
   -- the number that a call reports is the refusal's, always
-  pub outcome-number : outcome f kept rows cols s w .report .number ≡ refusalOf kept rows cols s w .number
+  pub outcome-number : outcome f kept rows cols s w .report .refusal .number ≡ refusalOf kept rows cols s w .number
   outcome-number = go (eqb (refusalOf kept rows cols s w .number) 0) refl
     where
-      go : (b : Bool) → eqb (refusalOf kept rows cols s w .number) 0 ≡ b → outcome f kept rows cols s w .report .number ≡ refusalOf kept rows cols s w .number
+      go :
+          (b : Bool) → eqb (refusalOf kept rows cols s w .number) 0 ≡ b →
+          outcome f kept rows cols s w .report .refusal .number ≡ refusalOf kept rows cols s w .number
       go true t = let e = eqb-true (refusalOf kept rows cols s w .number) 0 t in rw (accepted-outcome e) (accepted-number ∙ sym e)
       go false t = rw (refused-outcome (eqb-false (refusalOf kept rows cols s w .number) 0 t))

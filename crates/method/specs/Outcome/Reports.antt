@@ -16,39 +16,26 @@ use Rattle.method.specs.Rotation.{Rotation, rotationOf, rowsTurned, colu
 use Rattle.method.specs.Bidiagonal.{columnMatrix, rowMatrix, columnZeroed, rowZeroed, firstZeroed, thenZeroed, placesZeroed, bidiagonal}
 use Rattle.method.specs.Chase.{along, turned, pushed, stepped, steps, swept, negligible, firstRotation}
 use Rattle.method.specs.Walk.{Walk, State, start, run, enough, walked}
-use Rattle.method.specs.Walk.Counts as Counts
+use Rattle.method.specs.Walk.Counts.{WholeWalk, whole-walk}
 use Rattle.method.specs.Walk.Limits as Limits
 use Rattle.method.specs.Walk.Alike.{Alike, walked-alike}
-use Rattle.method.specs.Outcome.{Word, none, settled, stopped, Report, Outcome, card, isUpper, rulesOf, wordOf, reported, walkedFrom, accepted}
+use Rattle.method.specs.Report.{settled, stopped, Report}
+use Rattle.method.specs.Report.Words.{settled-one, one-settled, more-stopped}
+use Rattle.method.specs.Outcome.{card, isUpper, rulesOf, walkedFrom, accepted}
 use Rattle.method.specs.Settings.{Settings}
-
--- ---- settled and stopped
-
-pub settled-one : (range : ℕ) → wordOf range ≡ settled → range ≡ 1
-settled-one range e = go (eqb range 1) refl
-  where
-    go : (t : Bool) → eqb range 1 ≡ t → range ≡ 1
-    go true t = eqb-true range 1 t
-    go false t = absurd (let d : stopped ≡ settled = rw t at e in let z : _≡_ {A = ℕ} 0 1 = cc in omega arith)
-
-pub one-settled : (range : ℕ) → range ≡ 1 → wordOf range ≡ settled
-one-settled range e = rw (eq-eqb range 1 e)
-
-pub more-stopped : (range : ℕ) → 1 < range → wordOf range ≡ stopped
-more-stopped range h = rw (ne-eqb range 1 (λ e. omega arith))
 
 -- ---- what every accepted run reports, over a diagonal of c entries
 
-pub record True (s : Settings) (c : ℕ) (r : Report) : Type 0 where
-  pub number : r .number ≡ 0
-  pub place : r .place ≡ 0
-  pub each : r .passes ≡ r .sweeps + r .drops
-  pub drops : r .drops ≡ c - r .range
-  pub range : (1 ≤ r .range) × (r .range ≤ c)
-  pub few : r .passes ≤ s .limit + s .credit * (c - 2)
-  pub none : c ≡ 1 → r .passes ≡ 0
-  pub settled : r .range ≡ 1 → r .word ≡ settled
-  pub stopped : 1 < r .range → r .word ≡ stopped
+pub record TrueReport (s : Settings) (c : ℕ) (r : Report) : Type 0 where
+  pub number : r .refusal .number ≡ 0
+  pub place : r .refusal .place ≡ 0
+  pub each : r .tally .passes ≡ r .tally .sweeps + r .tally .drops
+  pub drops : r .tally .drops ≡ c - r .tally .range
+  pub range : (1 ≤ r .tally .range) × (r .tally .range ≤ c)
+  pub few : r .tally .passes ≤ s .limit + s .credit * (c - 2)
+  pub none : c ≡ 1 → r .tally .passes ≡ 0
+  pub settled : r .tally .range ≡ 1 → r .word ≡ settled
+  pub stopped : 1 < r .tally .range → r .word ≡ stopped
 
 card-some : (rows cols : ℕ) → 1 ≤ rows → 1 ≤ cols → 1 ≤ card rows cols
 card-some rows cols h g = go (leb cols rows) refl
@@ -68,10 +55,17 @@ module _ (f : Format) (kept : Bool) (rows cols : ℕ) (s : Settings) (w : Work) 
   abbrev ends : State Work
   ends = walkedFrom f (packed kept rows cols) rows cols s w
 
-  pub accepted-true : 1 ≤ rows → 1 ≤ cols → True s (card rows cols) (accepted f kept rows cols s w .report)
+  true-walk : 1 ≤ rows → 1 ≤ cols → WholeWalk (s .limit) (s .credit) (card rows cols) (ends .walk)
+  true-walk h g =
+      let z = packed kept rows cols in
+      whole-walk (rulesOf f z (isUpper rows cols) (s .tolerance) (s .absolute)) (s .limit) (s .credit) (card rows cols)
+      (bidiagonal f (s .floor) z (isUpper rows cols) (card rows cols) w)
+      (card-some rows cols h g)
+
+  pub accepted-true : 1 ≤ rows → 1 ≤ cols → TrueReport s (card rows cols) (accepted f kept rows cols s w .report)
   unfolding accepted
   accepted-true h g =
-      let k = Counts.report (rulesOf f (packed kept rows cols) (isUpper rows cols) (s .tolerance) (s .absolute)) (s .limit) (s .credit) (card rows cols) (bidiagonal f (s .floor) (packed kept rows cols) (isUpper rows cols) (card rows cols) w) (card-some rows cols h g) in
+      let k = true-walk h g in
       record {
         number = refl;
         place = refl;
@@ -80,17 +74,19 @@ module _ (f : Format) (kept : Bool) (rows cols : ℕ) (s : Settings) (w : Work) 
         range = k .range;
         few = k .few;
         none = λ e. k .none (omega (arith, e));
-        settled = λ e. one-settled (ends .walk .range) e;
-        stopped = λ m. more-stopped (ends .walk .range) m;
+        settled = λ e. one-settled ends e;
+        stopped = λ m. more-stopped ends m;
       }
 
   -- the run has ended by itself: one is left, or the counter is at the limit
-  pub accepted-ended : 1 ≤ rows → 1 ≤ cols → (ends .walk .range ≡ 1) ⊎ (s .limit ≤ ends .walk .counter)
+  pub accepted-ended : 1 ≤ rows → 1 ≤ cols → (ends .walk .tally .range ≡ 1) ⊎ (s .limit ≤ ends .walk .counter)
   accepted-ended h g =
-      let k = Counts.report (rulesOf f (packed kept rows cols) (isUpper rows cols) (s .tolerance) (s .absolute)) (s .limit) (s .credit) (card rows cols) (bidiagonal f (s .floor) (packed kept rows cols) (isUpper rows cols) (card rows cols) w) (card-some rows cols h g) in
+      let k = true-walk h g in
       go (k .end) (k .range .0)
     where
-      go : (ends .walk .range ≤ 1) ⊎ (s .limit ≤ ends .walk .counter) → 1 ≤ ends .walk .range → (ends .walk .range ≡ 1) ⊎ (s .limit ≤ ends .walk .counter)
+      go :
+          (ends .walk .tally .range ≤ 1) ⊎ (s .limit ≤ ends .walk .counter) → 1 ≤ ends .walk .tally .range →
+          (ends .walk .tally .range ≡ 1) ⊎ (s .limit ≤ ends .walk .counter)
       go (inl l) m = inl (omega arith)
       go (inr l) m = inr l
 
@@ -105,7 +101,7 @@ module _ (f : Format) (kept : Bool) (rows cols : ℕ) (s : Settings) (w : Work) 
   unfolding accepted
   accepted-settled n h e =
       let z = packed kept rows cols in
-      let q : walkedFrom f z rows cols (atLimit n s) w ≡ walkedFrom f z rows cols s w = Limits.settled (rulesOf f z (isUpper rows cols) (s .tolerance) (s .absolute)) (s .credit) h (card rows cols) _ (le-of-eq (settled-one _ e)) in
+      let q : walkedFrom f z rows cols (atLimit n s) w ≡ walkedFrom f z rows cols s w = Limits.settled (rulesOf f z (isUpper rows cols) (s .tolerance) (s .absolute)) (s .credit) h (card rows cols) _ (le-of-eq (settled-one (walkedFrom f z rows cols s w) e)) in
       rw q
 
   -- at credit 0 the limit k shows the state after k passes: the run of any greater limit n, cut off after k

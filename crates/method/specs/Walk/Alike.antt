@@ -23,13 +23,13 @@ pub record Follows {D D′ : Type 0} (rules : Rules D) (rules′ : Rules D′) (
 
 module _ {D D′ : Type 0} (rules : Rules D) (rules′ : Rules D′) (limit credit c : ℕ) (R : D → D′ → Type 0) (f : Follows rules rules′ c R) where
   pub run-alike :
-      (n : ℕ) (w : Walk) (d : D) (d′ : D′) → w .range ≤ c → R d d′ →
+      (n : ℕ) (w : Walk) (d : D) (d′ : D′) → w .tally .range ≤ c → R d d′ →
       Alike R (run rules limit credit n (record { walk = w; held = d })) (run rules′ limit credit n (record { walk = w; held = d′ }))
   unfolding run
   run-alike zero w d d′ h r = record { walk = refl; held = r }
   run-alike (suc n) w d d′ h r =
-      go (going limit w) refl (rules .negligible (w .range) d) refl (run-alike n (afterDrop credit w) d d′)
-      (run-alike n (afterSweep w) (rules .sweep (w .range) d) (rules′ .sweep (w .range) d′))
+      go (going limit w) refl (rules .negligible (w .tally .range) d) refl (run-alike n (afterDrop credit w) d d′)
+      (run-alike n (afterSweep w) (rules .sweep (w .tally .range) d) (rules′ .sweep (w .tally .range) d′))
     where
       s : State D
       s = record { walk = w; held = d }
@@ -38,21 +38,21 @@ module _ {D D′ : Type 0} (rules : Rules D) (rules′ : Rules D′) (limit cred
       s′ = record { walk = w; held = d′ }
 
       go :
-          (b : Bool) → going limit w ≡ b → (t : Bool) → rules .negligible (w .range) d ≡ t →
-          (w .range - 1 ≤ c → R d d′ → Alike R (run rules limit credit n (record { walk = afterDrop credit w; held = d })) (run rules′ limit credit n (record { walk = afterDrop credit w; held = d′ }))) →
-          (w .range ≤ c → R (rules .sweep (w .range) d) (rules′ .sweep (w .range) d′) → Alike R (run rules limit credit n (record { walk = afterSweep w; held = rules .sweep (w .range) d })) (run rules′ limit credit n (record { walk = afterSweep w; held = rules′ .sweep (w .range) d′ }))) →
+          (b : Bool) → going limit w ≡ b → (t : Bool) → rules .negligible (w .tally .range) d ≡ t →
+          (w .tally .range - 1 ≤ c → R d d′ → Alike R (run rules limit credit n (record { walk = afterDrop credit w; held = d })) (run rules′ limit credit n (record { walk = afterDrop credit w; held = d′ }))) →
+          (w .tally .range ≤ c → R (rules .sweep (w .tally .range) d) (rules′ .sweep (w .tally .range) d′) → Alike R (run rules limit credit n (record { walk = afterSweep w; held = rules .sweep (w .tally .range) d })) (run rules′ limit credit n (record { walk = afterSweep w; held = rules′ .sweep (w .tally .range) d′ }))) →
           Alike R (run rules limit credit (suc n) s) (run rules′ limit credit (suc n) s′)
       go false e t q dr sw = rw (run-end rules credit limit (suc n) s e, run-end rules′ credit limit (suc n) s′ e) (record { walk = refl; held = r })
       go true e true q dr sw =
           let g : Going limit w = going-true limit w e in
-          let q′ : rules′ .negligible (w .range) d′ ≡ true = sym (f .tests (w .range) d d′ (g .wide) h r) ∙ q in
+          let q′ : rules′ .negligible (w .tally .range) d′ ≡ true = sym (f .tests (w .tally .range) d d′ (g .wide) h r) ∙ q in
           rw (run-more rules credit limit n s e, run-more rules′ credit limit n s′ e, pass-drop rules credit s q, pass-drop rules′ credit s′ q′)
           (dr (omega arith) r)
       go true e false q dr sw =
           let g : Going limit w = going-true limit w e in
-          let q′ : rules′ .negligible (w .range) d′ ≡ false = sym (f .tests (w .range) d d′ (g .wide) h r) ∙ q in
+          let q′ : rules′ .negligible (w .tally .range) d′ ≡ false = sym (f .tests (w .tally .range) d d′ (g .wide) h r) ∙ q in
           rw (run-more rules credit limit n s e, run-more rules′ credit limit n s′ e, pass-sweep rules credit s q, pass-sweep rules′ credit s′ q′)
-          (sw h (f .sweeps (w .range) d d′ (g .wide) h r))
+          (sw h (f .sweeps (w .tally .range) d d′ (g .wide) h r))
 
   pub walked-alike : (d : D) (d′ : D′) → R d d′ → Alike R (walked rules limit credit c d) (walked rules′ limit credit c d′)
   walked-alike d d′ r = run-alike (enough limit credit c) (begun c) d d′ (omega arith) r

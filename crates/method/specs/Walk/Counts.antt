@@ -10,12 +10,13 @@ use lib.Dec.{ltb}
 use borrow.Author.Tests.{ltb-true, ltb-false, lt-ltb, le-ltb}
 use Rattle.method.specs.Walk.{Walk, Rules, State, begun, start, afterDrop, afterSweep, going, pass, run, enough, walked}
 use Rattle.method.specs.Walk.Run.{Going, going-true, true-going, narrow, ended, pass-drop, pass-sweep, pass-keeps, run-more, run-end, run-keeps, run-add, run-next, run-same}
+use Rattle.method.specs.Settings.{mostSize, mostLimit, mostCredit, mostPasses}
 
 -- ---- how many passes there can be
 
 -- what is ahead of a record at most, while its range is above 1
 abbrev ahead : ℕ → ℕ → Walk → ℕ
-ahead limit credit w = limit - w .counter + credit * (w .range - 2)
+ahead limit credit w = limit - w .counter + credit * (w .tally .range - 2)
 
 -- a drop's credit is paid for by the range
 paid : (credit r : ℕ) → 2 < r → credit * (r - 2) ≡ credit * (r - 1 - 2) + credit
@@ -25,15 +26,17 @@ module _ (limit credit : ℕ) (w : Walk) (g : Going limit w) where
   ahead-some : 0 < ahead limit credit w
   ahead-some = omega (arith, g .below)
 
-  ahead-drop : 1 < afterDrop credit w .range → ahead limit credit (afterDrop credit w) < ahead limit credit w
-  ahead-drop h = omega (arith, g .below, paid credit (w .range) (omega arith))
+  ahead-drop : 1 < afterDrop credit w .tally .range → ahead limit credit (afterDrop credit w) < ahead limit credit w
+  ahead-drop h = omega (arith, g .below, paid credit (w .tally .range) (omega arith))
 
   ahead-sweep : ahead limit credit (afterSweep w) < ahead limit credit w
   ahead-sweep = omega (arith, g .below)
 
 module _ {D : Type 0} (rules : Rules D) (limit credit : ℕ) where
   -- with as much fuel as is ahead, a run comes to its end
-  pub run-done : (n : ℕ) (s : State D) → (1 < s .walk .range → ahead limit credit (s .walk) ≤ n) → going limit (run rules limit credit n s .walk) ≡ false
+  pub run-done :
+      (n : ℕ) (s : State D) → (1 < s .walk .tally .range → ahead limit credit (s .walk) ≤ n) →
+      going limit (run rules limit credit n s .walk) ≡ false
   unfolding run
   run-done zero s h = go (going limit (s .walk)) refl
     where
@@ -46,31 +49,32 @@ module _ {D : Type 0} (rules : Rules D) (limit credit : ℕ) where
     where
       go :
           (b : Bool) → going limit (s .walk) ≡ b →
-          ((1 < pass rules credit s .walk .range → ahead limit credit (pass rules credit s .walk) ≤ n) → going limit (run rules limit credit n (pass rules credit s) .walk) ≡ false) →
+          ((1 < pass rules credit s .walk .tally .range → ahead limit credit (pass rules credit s .walk) ≤ n) →
+          going limit (run rules limit credit n (pass rules credit s) .walk) ≡ false) →
           going limit (run rules limit credit (suc n) s .walk) ≡ false
       go false e ih = rw (run-end rules credit limit (suc n) s e) e
       go true e ih =
           let g : Going limit (s .walk) = going-true limit (s .walk) e in
           rw (run-more rules credit limit n s e)
           (ih
-          (pass-keeps rules credit (λ s′. 1 < s′ .walk .range → ahead limit credit (s′ .walk) ≤ n) s
+          (pass-keeps rules credit (λ s′. 1 < s′ .walk .tally .range → ahead limit credit (s′ .walk) ≤ n) s
           (λ k. omega (arith, h (g .wide), ahead-drop limit credit (s .walk) g k))
           (λ k. omega (arith, h (g .wide), ahead-sweep limit credit (s .walk) g))))
 
 -- ---- what holds of every record that a walk from c reaches
 
-pub record Counts (limit credit c : ℕ) (w : Walk) : Type 0 where
-  pub each : w .passes ≡ w .sweeps + w .drops
-  pub whole : w .range + w .drops ≡ c
-  pub kept : 1 ≤ c → 1 ≤ w .range
+pub record Reached (limit credit c : ℕ) (w : Walk) : Type 0 where
+  pub each : w .tally .passes ≡ w .tally .sweeps + w .tally .drops
+  pub whole : w .tally .range + w .tally .drops ≡ c
+  pub kept : 1 ≤ c → 1 ≤ w .tally .range
   pub low : w .counter ≤ limit
-  pub few : w .passes ≤ enough limit credit c
-  pub left : 1 < w .range → w .passes + ahead limit credit w ≤ enough limit credit c
-  pub none : c ≤ 1 → w .passes ≡ 0
+  pub few : w .tally .passes ≤ enough limit credit c
+  pub left : 1 < w .tally .range → w .tally .passes + ahead limit credit w ≤ enough limit credit c
+  pub none : c ≤ 1 → w .tally .passes ≡ 0
 
 module _ {D : Type 0} (rules : Rules D) (limit credit c : ℕ) where
-  counts-start : Counts limit credit c (begun c)
-  counts-start =
+  reached-start : Reached limit credit c (begun c)
+  reached-start =
       record {
         each = omega arith;
         whole = omega arith;
@@ -81,8 +85,8 @@ module _ {D : Type 0} (rules : Rules D) (limit credit c : ℕ) where
         none = λ h. refl;
       }
 
-  counts-drop : (w : Walk) → Going limit w → Counts limit credit c w → Counts limit credit c (afterDrop credit w)
-  counts-drop w g k =
+  reached-drop : (w : Walk) → Going limit w → Reached limit credit c w → Reached limit credit c (afterDrop credit w)
+  reached-drop w g k =
       record {
         each = omega arith;
         whole = omega arith;
@@ -93,8 +97,8 @@ module _ {D : Type 0} (rules : Rules D) (limit credit c : ℕ) where
         none = λ h. absurd (let z : ⊥ = omega arith in z);
       }
 
-  counts-sweep : (w : Walk) → Going limit w → Counts limit credit c w → Counts limit credit c (afterSweep w)
-  counts-sweep w g k =
+  reached-sweep : (w : Walk) → Going limit w → Reached limit credit c w → Reached limit credit c (afterSweep w)
+  reached-sweep w g k =
       record {
         each = omega arith;
         whole = omega arith;
@@ -105,13 +109,13 @@ module _ {D : Type 0} (rules : Rules D) (limit credit c : ℕ) where
         none = λ h. absurd (let z : ⊥ = omega arith in z);
       }
 
-  pub counts : (n : ℕ) (d : D) → Counts limit credit c (run rules limit credit n (start c d) .walk)
-  counts n d =
-      run-keeps rules credit limit (λ s. Counts limit credit c (s .walk))
-      (λ s g k. pass-keeps rules credit (λ s′. Counts limit credit c (s′ .walk)) s (counts-drop (s .walk) g k) (counts-sweep (s .walk) g k))
+  pub reached : (n : ℕ) (d : D) → Reached limit credit c (run rules limit credit n (start c d) .walk)
+  reached n d =
+      run-keeps rules credit limit (λ s. Reached limit credit c (s .walk))
+      (λ s g k. pass-keeps rules credit (λ s′. Reached limit credit c (s′ .walk)) s (reached-drop (s .walk) g k) (reached-sweep (s .walk) g k))
       n
       (start c d)
-      counts-start
+      reached-start
 
   -- the fuel of `walked` is enough: there is no pass left to do
   pub walked-done : (d : D) → going limit (walked rules limit credit c d .walk) ≡ false
@@ -126,28 +130,30 @@ module _ {D : Type 0} (rules : Rules D) (limit credit c : ℕ) where
       (P : D → Type 0) → ((r : ℕ) (d : D) → 1 < r → r ≤ c → P d → P (rules .sweep r d)) → (n : ℕ) (d : D) → P d →
       P (run rules limit credit n (start c d) .held)
   held-keeps P step n d p =
-      run-keeps rules credit limit (λ s. Counts limit credit c (s .walk) × P (s .held))
+      run-keeps rules credit limit (λ s. Reached limit credit c (s .walk) × P (s .held))
       (λ s g k.
-      pass-keeps rules credit (λ s′. Counts limit credit c (s′ .walk) × P (s′ .held)) s
-      (counts-drop (s .walk) g (k .0), k .1)
-      (counts-sweep (s .walk) g (k .0), step (s .walk .range) (s .held) (g .wide) (omega (arith, k .0 .whole)) (k .1)))
+      pass-keeps rules credit (λ s′. Reached limit credit c (s′ .walk) × P (s′ .held)) s
+      (reached-drop (s .walk) g (k .0), k .1)
+      (reached-sweep (s .walk) g (k .0), step (s .walk .tally .range) (s .held) (g .wide) (omega (arith, k .0 .whole)) (k .1)))
       n
       (start c d)
-      (counts-start, p) .1
+      (reached-start, p) .1
 
 -- ---- what is promised of a whole walk's record
 
-pub record Report (limit credit c : ℕ) (w : Walk) : Type 0 where
-  pub each : w .passes ≡ w .sweeps + w .drops
-  pub drops : w .drops ≡ c - w .range
-  pub range : (1 ≤ w .range) × (w .range ≤ c)
-  pub few : w .passes ≤ limit + credit * (c - 2)
-  pub none : c ≤ 1 → w .passes ≡ 0
-  pub end : (w .range ≤ 1) ⊎ (limit ≤ w .counter)
+pub record WholeWalk (limit credit c : ℕ) (w : Walk) : Type 0 where
+  pub each : w .tally .passes ≡ w .tally .sweeps + w .tally .drops
+  pub drops : w .tally .drops ≡ c - w .tally .range
+  pub range : (1 ≤ w .tally .range) × (w .tally .range ≤ c)
+  pub few : w .tally .passes ≤ limit + credit * (c - 2)
+  pub none : c ≤ 1 → w .tally .passes ≡ 0
+  pub end : (w .tally .range ≤ 1) ⊎ (limit ≤ w .counter)
 
-pub report : {D : Type 0} (rules : Rules D) (limit credit c : ℕ) (d : D) → 1 ≤ c → Report limit credit c (walked rules limit credit c d .walk)
-report rules limit credit c d h =
-    let k = counts rules limit credit c (enough limit credit c) d in
+pub whole-walk :
+    {D : Type 0} (rules : Rules D) (limit credit c : ℕ) (d : D) → 1 ≤ c →
+    WholeWalk limit credit c (walked rules limit credit c d .walk)
+whole-walk rules limit credit c d h =
+    let k = reached rules limit credit c (enough limit credit c) d in
     record {
       each = k .each;
       drops = omega (arith, k .whole);
@@ -158,7 +164,8 @@ report rules limit credit c d h =
     }
 
 -- the largest settings
-pub enough-most : {limit credit c : ℕ} → c ≤ 48 → limit ≤ 100000 → credit ≤ 1000 → enough limit credit c ≤ 146000
+pub enough-most :
+    {limit credit c : ℕ} → c ≤ mostSize → limit ≤ mostLimit → credit ≤ mostCredit → enough limit credit c ≤ mostPasses
 enough-most {limit} {credit} {c} hc hl hk =
     let m : credit * (c - 2) ≤ 1000 * 46 = mul-le-mul {n₁ = credit} {m₁ = c - 2} {n₂ = 1000} {m₂ = 46} hk (omega arith) in
     omega arith

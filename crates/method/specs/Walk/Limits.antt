@@ -15,14 +15,17 @@ use Rattle.method.specs.Walk.Counts.{walked-done}
 -- ---- a walk that came down to range 1 is the same under every larger limit
 
 module _ {D : Type 0} (rules : Rules D) (credit : ℕ) {limit limit′ : ℕ} (h : limit ≤ limit′) where
-  pub run-settled : (n : ℕ) (s : State D) → run rules limit credit n s .walk .range ≤ 1 → run rules limit′ credit n s ≡ run rules limit credit n s
+  pub run-settled :
+      (n : ℕ) (s : State D) → run rules limit credit n s .walk .tally .range ≤ 1 →
+      run rules limit′ credit n s ≡ run rules limit credit n s
   unfolding run
   run-settled zero s k = refl
   run-settled (suc n) s k = go (going limit (s .walk)) refl (run-settled n (pass rules credit s))
     where
       go :
           (b : Bool) → going limit (s .walk) ≡ b →
-          (run rules limit credit n (pass rules credit s) .walk .range ≤ 1 → run rules limit′ credit n (pass rules credit s) ≡ run rules limit credit n (pass rules credit s)) →
+          (run rules limit credit n (pass rules credit s) .walk .tally .range ≤ 1 →
+          run rules limit′ credit n (pass rules credit s) ≡ run rules limit credit n (pass rules credit s)) →
           run rules limit′ credit (suc n) s ≡ run rules limit credit (suc n) s
       go true e ih =
           let g : Going limit (s .walk) = going-true limit (s .walk) e in
@@ -33,7 +36,9 @@ module _ {D : Type 0} (rules : Rules D) (credit : ℕ) {limit limit′ : ℕ} (h
           rw (run-end rules credit limit (suc n) s e)
           (run-end rules credit limit′ (suc n) s (narrow limit′ (s .walk) (rw (run-end rules credit limit (suc n) s e) at k)))
 
-  pub settled : (c : ℕ) (d : D) → walked rules limit credit c d .walk .range ≤ 1 → walked rules limit′ credit c d ≡ walked rules limit credit c d
+  pub settled :
+      (c : ℕ) (d : D) → walked rules limit credit c d .walk .tally .range ≤ 1 →
+      walked rules limit′ credit c d ≡ walked rules limit credit c d
   settled c d k =
       let e : run rules limit′ credit (enough limit credit c) (start c d) ≡ walked rules limit credit c d = run-settled (enough limit credit c) (start c d) k in
       run-same rules credit limit′ (start c d) (omega arith) (rw e (narrow limit′ (walked rules limit credit c d .walk) k)) ∙ e
@@ -44,10 +49,10 @@ module _ {D : Type 0} (rules : Rules D) {limit limit′ : ℕ} (h : limit ≤ li
   run-exposed : (n : ℕ) (s : State D) → s .walk .counter + n ≤ limit → run rules limit 0 n s ≡ run rules limit′ 0 n s
   unfolding run
   run-exposed zero s k = refl
-  run-exposed (suc n) s k = go (ltb 1 (s .walk .range)) refl (run-exposed n (pass rules 0 s))
+  run-exposed (suc n) s k = go (ltb 1 (s .walk .tally .range)) refl (run-exposed n (pass rules 0 s))
     where
       go :
-          (b : Bool) → ltb 1 (s .walk .range) ≡ b →
+          (b : Bool) → ltb 1 (s .walk .tally .range) ≡ b →
           (pass rules 0 s .walk .counter + n ≤ limit → run rules limit 0 n (pass rules 0 s) ≡ run rules limit′ 0 n (pass rules 0 s)) →
           run rules limit 0 (suc n) s ≡ run rules limit′ 0 (suc n) s
       go true e ih =

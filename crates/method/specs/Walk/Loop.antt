@@ -7,25 +7,28 @@ use mathlib.Core.Logic.{_⊎_, inl, inr}
 use mathlib.Core.Bool.{Bool, true, false, _&&_}
 use lib.Dec.{ltb}
 use borrow.Author.Tests.{ltb-true, ltb-false, lt-ltb, le-ltb}
-use Rattle.method.specs.Walk.{Walk, Rules, State, begun, start, afterDrop, afterSweep, going, pass, run, enough, walked}
+use Rattle.method.specs.Walk.{Tally, Walk, Rules, State, stands, afterDrop, afterSweep, going, pass, run}
 use Rattle.method.specs.Walk.Run.{Going, going-true, true-going, narrow, ended, pass-drop, pass-sweep, pass-keeps, run-more, run-end, run-keeps, run-add, run-next, run-same}
 
 -- the sums of n passes fit the machine's numbers
+pub record TallyRoom (n : ℕ) (t : Tally) : Type 0 where
+  pub passes : t .passes + n < 2 ^ 32
+  pub sweeps : t .sweeps + n < 2 ^ 32
+  pub drops : t .drops + n < 2 ^ 32
+
 pub record Room (n : ℕ) (w : Walk) : Type 0 where
+  pub tally : TallyRoom n (w .tally)
   pub counter : w .counter + n < 2 ^ 32
-  pub passes : w .passes + n < 2 ^ 32
-  pub sweeps : w .sweeps + n < 2 ^ 32
-  pub drops : w .drops + n < 2 ^ 32
 
 -- ---- a loop with a budget, from any state: k passes were made, or the walk was at its end before
 
 -- how far k passes can move a record
 pub record Moved (k : ℕ) (w₀ w : Walk) : Type 0 where
-  pub range : w .range ≤ w₀ .range
+  pub range : w .tally .range ≤ w₀ .tally .range
   pub counter : w .counter ≤ w₀ .counter + k
-  pub passes : w .passes ≤ w₀ .passes + k
-  pub sweeps : w .sweeps ≤ w₀ .sweeps + k
-  pub drops : w .drops ≤ w₀ .drops + k
+  pub passes : w .tally .passes ≤ w₀ .tally .passes + k
+  pub sweeps : w .tally .sweeps ≤ w₀ .tally .sweeps + k
+  pub drops : w .tally .drops ≤ w₀ .tally .drops + k
 
 module _ {D : Type 0} (rules : Rules D) (limit credit : ℕ) where
   pub moved : (k : ℕ) (s : State D) → Moved k (s .walk) (run rules limit credit k s .walk)
@@ -56,7 +59,7 @@ module _ {D : Type 0} {rules : Rules D} {limit credit k : ℕ} {s₀ s : State D
   pub made-room : {n : ℕ} → Room n (s₀ .walk) → k < n → Room 1 (s .walk)
   made-room {n} q h =
       let m = made-moved in
-      record { counter = omega arith; passes = omega arith; sweeps = omega arith; drops = omega arith }
+      record { tally = record { passes = omega arith; sweeps = omega arith; drops = omega arith }; counter = omega arith }
 
   pub made-all : {n : ℕ} → k ≤ n → n ≤ k → s ≡ run rules limit credit n s₀
   made-all {n} h h′ = r .is ∙ ap (λ (x : ℕ). run rules limit credit x s₀) (let e : k ≡ n = omega arith in e)
@@ -69,11 +72,12 @@ module _ {D : Type 0} {rules : Rules D} {limit credit k : ℕ} {s₀ s : State D
     after = sym (run-next rules credit limit k s₀ (rw (r .is) at (true-going limit (s .walk) g)) ∙ ap (pass rules credit) (sym (r .is)))
 
     pub made-drop :
-        rules .negligible (s .walk .range) (s .held) ≡ true →
-        Made rules limit credit s₀ (k + 1) (record { walk = afterDrop credit (s .walk); held = s .held })
+        rules .negligible (s .walk .tally .range) (s .held) ≡ true →
+        Made rules limit credit s₀ (k + 1) (stands (afterDrop credit (s .walk)) (s .held))
     made-drop e = record { is = sym (pass-drop rules credit s e) ∙ after }
 
     pub made-sweep :
-        rules .negligible (s .walk .range) (s .held) ≡ false →
-        Made rules limit credit s₀ (k + 1) (record { walk = afterSweep (s .walk); held = rules .sweep (s .walk .range) (s .held) })
+        rules .negligible (s .walk .tally .range) (s .held) ≡ false →
+        Made rules limit credit s₀ (k + 1)
+        (stands (afterSweep (s .walk)) (rules .sweep (s .walk .tally .range) (s .held)))
     made-sweep e = record { is = sym (pass-sweep rules credit s e) ∙ after }

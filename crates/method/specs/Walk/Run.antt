@@ -7,7 +7,7 @@ use mathlib.Core.Logic.{_⊎_, inl, inr}
 use mathlib.Core.Bool.{Bool, true, false, _&&_}
 use lib.Dec.{ltb}
 use borrow.Author.Tests.{ltb-true, ltb-false, lt-ltb, le-ltb}
-use Rattle.method.specs.Walk.{Walk, Rules, State, begun, start, afterDrop, afterSweep, going, pass, run, enough, walked}
+use Rattle.method.specs.Walk.{Walk, Rules, State, stands, begun, start, afterDrop, afterSweep, going, pass, run, enough, walked}
 
 -- ---- whether there is a pass to do
 
@@ -24,54 +24,62 @@ and-right false b e = absurd (false-true e)
 
 -- what is known of a record with a pass to do
 pub record Going (limit : ℕ) (w : Walk) : Type 0 where
-  pub wide : 1 < w .range
+  pub wide : 1 < w .tally .range
   pub below : w .counter < limit
 
 pub going-true : (limit : ℕ) (w : Walk) → going limit w ≡ true → Going limit w
 going-true limit w e =
     record {
-      wide = ltb-true 1 (w .range) (and-left (ltb 1 (w .range)) (ltb (w .counter) limit) e);
-      below = ltb-true (w .counter) limit (and-right (ltb 1 (w .range)) (ltb (w .counter) limit) e);
+      wide = ltb-true 1 (w .tally .range) (and-left (ltb 1 (w .tally .range)) (ltb (w .counter) limit) e);
+      below = ltb-true (w .counter) limit (and-right (ltb 1 (w .tally .range)) (ltb (w .counter) limit) e);
     }
 
 pub true-going : (limit : ℕ) (w : Walk) → Going limit w → going limit w ≡ true
 true-going limit w g = simp (lt-ltb _ _ (g .wide), lt-ltb _ _ (g .below))
 
 -- no pass is left to do: the range is down, or the counter is up
-pub narrow : (limit : ℕ) (w : Walk) → w .range ≤ 1 → going limit w ≡ false
+pub narrow : (limit : ℕ) (w : Walk) → w .tally .range ≤ 1 → going limit w ≡ false
 narrow limit w h = simp (le-ltb _ _ h)
 
 pub spent : (limit : ℕ) (w : Walk) → limit ≤ w .counter → going limit w ≡ false
-spent limit w h = last (ltb 1 (w .range)) (ltb (w .counter) limit) (le-ltb _ _ h)
+spent limit w h = last (ltb 1 (w .tally .range)) (ltb (w .counter) limit) (le-ltb _ _ h)
   where
     last : (a b : Bool) → b ≡ false → (a && b) ≡ false
     last true b e = e
     last false b e = refl
 
 -- the other way round
-pub ended : (limit : ℕ) (w : Walk) → going limit w ≡ false → (w .range ≤ 1) ⊎ (limit ≤ w .counter)
-ended limit w e = go (ltb 1 (w .range)) refl
+pub ended : (limit : ℕ) (w : Walk) → going limit w ≡ false → (w .tally .range ≤ 1) ⊎ (limit ≤ w .counter)
+ended limit w e = go (ltb 1 (w .tally .range)) refl
   where
-    go : (b : Bool) → ltb 1 (w .range) ≡ b → (w .range ≤ 1) ⊎ (limit ≤ w .counter)
+    go : (b : Bool) → ltb 1 (w .tally .range) ≡ b → (w .tally .range ≤ 1) ⊎ (limit ≤ w .counter)
     go true t = inr (ltb-false (w .counter) limit (rw t at e))
-    go false t = inl (ltb-false 1 (w .range) t)
+    go false t = inl (ltb-false 1 (w .tally .range) t)
 
 -- ---- one pass, and the first pass of a run
 
 module _ {D : Type 0} (rules : Rules D) (credit : ℕ) where
-  pub pass-drop : (s : State D) → rules .negligible (s .walk .range) (s .held) ≡ true → pass rules credit s ≡ record { walk = afterDrop credit (s .walk); held = s .held }
+  pub pass-drop :
+      (s : State D) → rules .negligible (s .walk .tally .range) (s .held) ≡ true →
+      pass rules credit s ≡ stands (afterDrop credit (s .walk)) (s .held)
   unfolding pass
   pass-drop s e = rw (e, pass)
 
-  pub pass-sweep : (s : State D) → rules .negligible (s .walk .range) (s .held) ≡ false → pass rules credit s ≡ record { walk = afterSweep (s .walk); held = rules .sweep (s .walk .range) (s .held) }
+  pub pass-sweep :
+      (s : State D) → rules .negligible (s .walk .tally .range) (s .held) ≡ false →
+      pass rules credit s ≡ stands (afterSweep (s .walk)) (rules .sweep (s .walk .tally .range) (s .held))
   unfolding pass
   pass-sweep s e = rw (e, pass)
 
   -- what holds after a drop and after a sweep holds after a pass
-  pub pass-keeps : (P : State D → Type 0) (s : State D) → P (record { walk = afterDrop credit (s .walk); held = s .held }) → P (record { walk = afterSweep (s .walk); held = rules .sweep (s .walk .range) (s .held) }) → P (pass rules credit s)
-  pass-keeps P s d w = go (rules .negligible (s .walk .range) (s .held)) refl
+  pub pass-keeps :
+      (P : State D → Type 0) (s : State D) →
+      P (stands (afterDrop credit (s .walk)) (s .held)) →
+      P (stands (afterSweep (s .walk)) (rules .sweep (s .walk .tally .range) (s .held))) →
+      P (pass rules credit s)
+  pass-keeps P s d w = go (rules .negligible (s .walk .tally .range) (s .held)) refl
     where
-      go : (b : Bool) → rules .negligible (s .walk .range) (s .held) ≡ b → P (pass rules credit s)
+      go : (b : Bool) → rules .negligible (s .walk .tally .range) (s .held) ≡ b → P (pass rules credit s)
       go true e = rw (pass-drop s e) d
       go false e = rw (pass-sweep s e) w
 

@@ -4,10 +4,10 @@ use Rattle.vectors.proofs.main.Statement.{statement}
 use Rattle.vectors.proofs.main.Tie as tie
 
 abbrev Inv-loop : tie.InvT-loop
-Inv-loop tally₀ turns₀ tally turns = Unit {0}
+Inv-loop totals₀ turns₀ totals turns = Unit {0}
 
 abbrev μ-loop : tie.MeasureT-loop
-μ-loop tally₀ turns₀ tally turns = turns
+μ-loop totals₀ turns₀ totals turns = turns
 
 pub main-spec : {M : Type 1} → statement M
 main-spec =

@@ -23,10 +23,10 @@ decompose-requires c κs =
 
 returns-2 : tie.Need-returns-2
 returns-2 c =
-    let at-decompose = c .before .before .before .before .before in
+    let at-decompose = c .before .before .before .before .before .before in
     let at-if1 = at-decompose .before .before .before .before in
     let at-first-refusal = at-if1 .before .before in
-    let at-start = c .before .before .before .before .before .before .before .before .before .before .before .before .before .before .before .before in
+    let at-start = c .before .before .before .before .before .before .before .before .before .before .before .before .before .before .before .before .before in
     plain-call (at-start .args .rows) (at-start .args .cols) (settingsOf (at-start .args .settings)) _ (at-start .args .b .now) _ _ _ (accepted-call false (at-start .args .rows) (at-start .args .cols) (settingsOf (at-start .args .settings)) (work (at-start .args .b .now) [] []) _ _ _ _ (at-first-refusal .first-refusal .ensures) (at-if1 .if1 .left) (c .accepted .ensures) (at-decompose .decompose .ensures))
 
 pub svd-decomposition-spec : {M : Type 1} → statement M

@@ -1,4 +1,4 @@
--- The word by the range. Assumes nothing.
+-- `Report::accepted` meets its contract: the word by the range. Assumes nothing.
 use borrow.Author.Needs.{needs}
 use mathlib.Core.Path.{refl}
 use borrow.Author.Tests.{eq-eqb, ne-eqb}

@@ -3,7 +3,7 @@ use crate::replay::Made;
 use svd::report::Report;
 use svd::report::Word;
 
-pub(crate) struct Tally {
+pub(crate) struct Totals {
     // Whether the input goes on.
     pub(crate) more: bool,
     runs: u64,
@@ -25,10 +25,10 @@ fn print(number: u64, words: &[u8]) {
     io::write_all(1, words);
 }
 
-impl Tally {
+impl Totals {
     // Nothing has been counted.
-    pub(crate) fn new() -> Tally {
-        Tally {
+    pub(crate) fn new() -> Totals {
+        Totals {
             more: true,
             runs: 0,
             refused: 0,
@@ -40,22 +40,26 @@ impl Tally {
     }
 
     // The input ended where a run would begin.
-    pub(crate) fn ended(mut self) -> Tally {
+    pub(crate) fn ended(mut self) -> Totals {
         self.more = false;
         self
     }
 
     // One run more.
-    pub(crate) fn counted(self, made: Made) -> Tally {
+    pub(crate) fn counted(self, made: Made) -> Totals {
         let report = made.report;
-        let tally = self.answered(report);
-        if made.agrees { tally } else { tally.differs() }
+        let totals = self.answered(report);
+        if made.agrees {
+            totals
+        } else {
+            totals.differs()
+        }
     }
 
     // The same, of which the library answered this.
-    fn answered(mut self, report: Report) -> Tally {
+    fn answered(mut self, report: Report) -> Totals {
         self.runs = plus(self.runs, 1);
-        self.passes = plus(self.passes, report.passes as u64);
+        self.passes = plus(self.passes, report.tally.passes as u64);
         let word = report.word;
         match word {
             Word::None => {
@@ -72,14 +76,14 @@ impl Tally {
     }
 
     // The run that was counted last differs: prints its number.
-    pub(crate) fn differs(mut self) -> Tally {
+    pub(crate) fn differs(mut self) -> Totals {
         self.differ = plus(self.differ, 1);
         print(self.runs, b" differs\n");
         self
     }
 
     // The rest is no run: it counts as one that differs, and ends the input.
-    pub(crate) fn malformed(mut self) -> Tally {
+    pub(crate) fn malformed(mut self) -> Totals {
         self.runs = plus(self.runs, 1);
         self.differs().ended()
     }

@@ -1,0 +1,33 @@
+-- What a call reports: the refusal, the word, and what the walk counted. A refused call reports the refusal alone; an
+-- accepted one, the state that its walk came to. Definitions only.
+pub mod Words
+use Prim.Native.Nat.{ℕ}
+use lib.Dec.{eqb}
+use Rattle.method.specs.Floats.{pick}
+use Rattle.method.specs.Work.{Work}
+use Rattle.method.specs.Walk.{Tally, State, tallyBegun}
+use Rattle.method.specs.Checks.{Refusal, refusal}
+
+-- `none` goes with a refusal
+pub data Word : Type 0 where
+  none settled stopped : Word
+
+pub record Report : Type 0 where
+  pub refusal : Refusal
+  pub word : Word
+  pub tally : Tally
+
+-- nothing was counted
+abbrev pub noTally : Tally
+noTally = tallyBegun 0
+
+abbrev pub refused : Refusal → Report
+refused r = record { refusal = r; word = none; tally = noTally }
+
+-- settled where the range left is 1, stopped where it is more
+abbrev pub wordOf : State Work → Word
+wordOf s = pick (eqb (s .walk .tally .range) 1) settled stopped
+
+-- nothing is refused, and the walk's tally is reported as it is
+abbrev pub reported : State Work → Report
+reported s = record { refusal = refusal 0 0; word = wordOf s; tally = s .walk .tally }
