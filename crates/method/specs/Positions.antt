@@ -6,7 +6,7 @@ use Prim.Native.Nat.{ℕ, zero, suc, _+_, _-_, _*_, _≤_, _<_}
 use native.Mathlib.Nat.{add-mul}
 use native.Mathlib.Omega.{arith}
 use Rattle.method.specs.Floats.{pick}
-use Rattle.method.specs.Walk.{Walk, Rules, start, run}
+use Rattle.method.specs.Walk.{Rules, start, run}
 use Rattle.method.specs.Walk.Counts.{reached}
 
 -- the Rust's inter, e1, tl and bl

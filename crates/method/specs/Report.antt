@@ -1,7 +1,6 @@
 -- What a call reports: the refusal, the word, and what the walk counted. A refused call reports the refusal alone; an
 -- accepted one, the state that its walk came to. Definitions only.
 pub mod Words
-use Prim.Native.Nat.{ℕ}
 use lib.Dec.{eqb}
 use Rattle.method.specs.Floats.{pick}
 use Rattle.method.specs.Work.{Work}

@@ -1,6 +1,6 @@
 -- Runs over equal matrices: for any relation between the factors that the operations on factors keep, and so with the factors kept or not (today's `-same` laws,
 -- `agree` and `accepted-agree` of Outcome.Reports, with the same statements). Assumes nothing.
-use mathlib.Core.Path.{_≡_, refl, ap}
+use mathlib.Core.Path.{_≡_, refl}
 use mathlib.Core.Bool.{Bool, true, false}
 use mathlib.Core.List.{[]}
 use Prim.Native.Nat.{ℕ, _+_, _≤_}

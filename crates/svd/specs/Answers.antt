@@ -3,7 +3,7 @@ use mathlib.Core.Path.{_≡_, refl, sym, ap, _∙_}
 use mathlib.Core.List.{List, []}
 use Prim.Native.Nat.{ℕ}
 use lib.Ieee.{Float, binary64}
-use Rattle.method.specs.Work.{Work, work}
+use Rattle.method.specs.Work.{work}
 use Rattle.method.specs.Checks as Checks
 use Rattle.method.specs.Walk as Walk
 use Rattle.method.specs.Report as Report

@@ -1,12 +1,10 @@
 -- The walk's record in the code: what a pass asks of it, and what it is after so many passes. Assumes nothing.
-use mathlib.Core.Path.{_≡_, refl, sym, ap, _∙_}
+use mathlib.Core.Path.{_≡_, refl, ap, _∙_}
 use mathlib.Core.Bool.{Bool, true, false}
-use mathlib.Core.List.{List}
 use Prim.Native.Nat.{ℕ, _+_, _-_, _*_, _≤_, _<_, zero-le}
 use native.Mathlib.Nat.{le-trans, mul-le-mul-right}
-use lib.ListN.{length}
 use native.Mathlib.Omega.{arith}
-use lib.Ieee.{Float, binary64}
+use lib.Ieee.{binary64}
 use Rattle.method.specs.Work.{Work, Shape as Sizes}
 use Rattle.method.specs.Lengths.{SameLengths, onward, swept-lengths}
 use Rattle.method.specs.Chase.{negligible, swept}

@@ -1,24 +1,18 @@
 -- The report is true: what every accepted run reports, that the factors change neither report nor matrix, that a settled answer is the same at every greater
 -- limit, and that at credit 0 each limit shows the state after as many passes. Assumes nothing.
-use mathlib.Core.Path.{_≡_, refl, sym, ap, _∙_}
+use mathlib.Core.Path.{_≡_, refl}
 use mathlib.Core.Logic.{_⊎_, inl, inr}
-use mathlib.Core.Bool.{Bool, true, false, not}
-use mathlib.Core.List.{List, []}
+use mathlib.Core.Bool.{Bool, true, false}
 use Prim.Native.Nat.{ℕ, _+_, _-_, _*_, _≤_, _<_}
 use native.Mathlib.Nat.{le-of-eq}
 use native.Mathlib.Omega.{arith}
-use lib.Dec.{eqb, leb}
-use borrow.Author.Tests.{eqb-true, eqb-false, eq-eqb, ne-eqb, leb-true, leb-false}
-use lib.Ieee.{Float, Format}
-use Rattle.method.specs.Turns.{turns-alike}
-use Rattle.method.specs.Work.{Work, Shape, work, packed}
-use Rattle.method.specs.Rotation.{Rotation, rotationOf, rowsTurned, columnsTurned}
-use Rattle.method.specs.Bidiagonal.{columnMatrix, rowMatrix, columnZeroed, rowZeroed, firstZeroed, thenZeroed, placesZeroed, bidiagonal}
-use Rattle.method.specs.Chase.{along, turned, pushed, stepped, steps, swept, negligible, firstRotation}
-use Rattle.method.specs.Walk.{Walk, State, start, run, enough, walked}
+use lib.Dec.{leb}
+use lib.Ieee.{Format}
+use Rattle.method.specs.Work.{Work, packed}
+use Rattle.method.specs.Bidiagonal.{bidiagonal}
+use Rattle.method.specs.Walk.{Walk, State, start, run}
 use Rattle.method.specs.Walk.Counts.{WholeWalk, whole-walk}
 use Rattle.method.specs.Walk.Limits as Limits
-use Rattle.method.specs.Walk.Alike.{Alike, walked-alike}
 use Rattle.method.specs.Report.{settled, stopped, Report}
 use Rattle.method.specs.Report.Words.{settled-one, one-settled, more-stopped}
 use Rattle.method.specs.Outcome.{card, isUpper, rulesOf, walkedFrom, accepted}

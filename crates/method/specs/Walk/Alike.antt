@@ -1,14 +1,10 @@
 -- Two walks over related data, whose tests and sweeps go together, have the same record and related data. Assumes nothing.
-use Prim.Native.Nat.{ℕ, zero, suc, _+_, _-_, _*_, _≤_, _<_, _^_}
-use native.Mathlib.Nat.{zero-add, suc-add, mul-suc, mul-le-mul, add-sub-of-le}
+use Prim.Native.Nat.{ℕ, zero, suc, _-_, _≤_, _<_}
 use native.Mathlib.Omega.{arith}
-use mathlib.Core.Path.{_≡_, refl, sym, ap, _∙_}
-use mathlib.Core.Logic.{_⊎_, inl, inr}
-use mathlib.Core.Bool.{Bool, true, false, _&&_}
-use lib.Dec.{ltb}
-use borrow.Author.Tests.{ltb-true, ltb-false, lt-ltb, le-ltb}
-use Rattle.method.specs.Walk.{Walk, Rules, State, begun, start, afterDrop, afterSweep, going, pass, run, enough, walked}
-use Rattle.method.specs.Walk.Run.{Going, going-true, true-going, narrow, ended, pass-drop, pass-sweep, pass-keeps, run-more, run-end, run-keeps, run-add, run-next, run-same}
+use mathlib.Core.Path.{_≡_, refl, sym, _∙_}
+use mathlib.Core.Bool.{Bool, true, false}
+use Rattle.method.specs.Walk.{Walk, Rules, State, begun, afterDrop, afterSweep, going, run, enough, walked}
+use Rattle.method.specs.Walk.Run.{Going, going-true, pass-drop, pass-sweep, run-more, run-end}
 
 -- ---- two walks over related data have the same record and related data
 

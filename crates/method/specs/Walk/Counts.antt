@@ -1,15 +1,13 @@
 -- What is true of every walk's record: passes are sweeps and drops, drops are what the range lost, and passes are bounded; and the run
 -- comes to its end by itself. Assumes nothing.
-use Prim.Native.Nat.{ℕ, zero, suc, _+_, _-_, _*_, _≤_, _<_, _^_}
-use native.Mathlib.Nat.{zero-add, suc-add, mul-suc, mul-le-mul, add-sub-of-le}
+use Prim.Native.Nat.{ℕ, zero, suc, _+_, _-_, _*_, _≤_, _<_}
+use native.Mathlib.Nat.{mul-suc, mul-le-mul}
 use native.Mathlib.Omega.{arith}
-use mathlib.Core.Path.{_≡_, refl, sym, ap, _∙_}
-use mathlib.Core.Logic.{_⊎_, inl, inr}
-use mathlib.Core.Bool.{Bool, true, false, _&&_}
-use lib.Dec.{ltb}
-use borrow.Author.Tests.{ltb-true, ltb-false, lt-ltb, le-ltb}
+use mathlib.Core.Path.{_≡_, refl, ap, _∙_}
+use mathlib.Core.Logic.{_⊎_}
+use mathlib.Core.Bool.{Bool, true, false}
 use Rattle.method.specs.Walk.{Walk, Rules, State, begun, start, afterDrop, afterSweep, going, pass, run, enough, walked}
-use Rattle.method.specs.Walk.Run.{Going, going-true, true-going, narrow, ended, pass-drop, pass-sweep, pass-keeps, run-more, run-end, run-keeps, run-add, run-next, run-same}
+use Rattle.method.specs.Walk.Run.{Going, going-true, ended, pass-keeps, run-more, run-end, run-keeps, run-same}
 use Rattle.method.specs.Settings.{mostSize, mostLimit, mostCredit, mostPasses}
 
 -- ---- how many passes there can be

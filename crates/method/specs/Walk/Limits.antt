@@ -1,16 +1,13 @@
 -- Two limits compared: a settled walk is the same at every greater one, and at credit 0 each limit shows the state after as many passes.
 -- Assumes nothing.
-use Prim.Native.Nat.{ℕ, zero, suc, _+_, _-_, _*_, _≤_, _<_, _^_}
-use native.Mathlib.Nat.{zero-add, suc-add, mul-suc, mul-le-mul, add-sub-of-le}
+use Prim.Native.Nat.{ℕ, zero, suc, _+_, _-_, _*_, _≤_}
 use native.Mathlib.Omega.{arith}
-use mathlib.Core.Path.{_≡_, refl, sym, ap, _∙_}
-use mathlib.Core.Logic.{_⊎_, inl, inr}
-use mathlib.Core.Bool.{Bool, true, false, _&&_}
+use mathlib.Core.Path.{_≡_, refl, ap, _∙_}
+use mathlib.Core.Bool.{Bool, true, false}
 use lib.Dec.{ltb}
-use borrow.Author.Tests.{ltb-true, ltb-false, lt-ltb, le-ltb}
-use Rattle.method.specs.Walk.{Walk, Rules, State, begun, start, afterDrop, afterSweep, going, pass, run, enough, walked}
-use Rattle.method.specs.Walk.Run.{Going, going-true, true-going, narrow, ended, pass-drop, pass-sweep, pass-keeps, run-more, run-end, run-keeps, run-add, run-next, run-same}
-use Rattle.method.specs.Walk.Counts.{walked-done}
+use borrow.Author.Tests.{ltb-true, ltb-false}
+use Rattle.method.specs.Walk.{Rules, State, start, going, pass, run, enough, walked}
+use Rattle.method.specs.Walk.Run.{Going, going-true, true-going, narrow, pass-keeps, run-more, run-end, run-same}
 
 -- ---- a walk that came down to range 1 is the same under every larger limit
 

@@ -1,14 +1,10 @@
 -- What a loop with a budget is proved by: after k turns it has made k passes, or the walk was at its end before. Assumes nothing.
-use Prim.Native.Nat.{ℕ, zero, suc, _+_, _-_, _*_, _≤_, _<_, _^_}
-use native.Mathlib.Nat.{zero-add, suc-add, mul-suc, mul-le-mul, add-sub-of-le}
+use Prim.Native.Nat.{ℕ, zero, suc, _+_, _≤_, _<_, _^_}
 use native.Mathlib.Omega.{arith}
 use mathlib.Core.Path.{_≡_, refl, sym, ap, _∙_}
-use mathlib.Core.Logic.{_⊎_, inl, inr}
-use mathlib.Core.Bool.{Bool, true, false, _&&_}
-use lib.Dec.{ltb}
-use borrow.Author.Tests.{ltb-true, ltb-false, lt-ltb, le-ltb}
+use mathlib.Core.Bool.{Bool, true, false}
 use Rattle.method.specs.Walk.{Tally, Walk, Rules, State, stands, afterDrop, afterSweep, going, pass, run}
-use Rattle.method.specs.Walk.Run.{Going, going-true, true-going, narrow, ended, pass-drop, pass-sweep, pass-keeps, run-more, run-end, run-keeps, run-add, run-next, run-same}
+use Rattle.method.specs.Walk.Run.{Going, true-going, pass-drop, pass-sweep, pass-keeps, run-more, run-end, run-next, run-same}
 
 -- the sums of n passes fit the machine's numbers
 pub record TallyRoom (n : ℕ) (t : Tally) : Type 0 where

@@ -1,13 +1,13 @@
 -- Passes one after another: the first of a run, its end, and two runs joined, over any data, any test and any sweep. Assumes nothing.
-use Prim.Native.Nat.{ℕ, zero, suc, _+_, _-_, _*_, _≤_, _<_, _^_}
-use native.Mathlib.Nat.{zero-add, suc-add, mul-suc, mul-le-mul, add-sub-of-le}
+use Prim.Native.Nat.{ℕ, zero, suc, _+_, _-_, _≤_, _<_}
+use native.Mathlib.Nat.{zero-add, suc-add, add-sub-of-le}
 use native.Mathlib.Omega.{arith}
-use mathlib.Core.Path.{_≡_, refl, sym, ap, _∙_}
+use mathlib.Core.Path.{_≡_, refl, sym, _∙_}
 use mathlib.Core.Logic.{_⊎_, inl, inr}
 use mathlib.Core.Bool.{Bool, true, false, _&&_}
 use lib.Dec.{ltb}
 use borrow.Author.Tests.{ltb-true, ltb-false, lt-ltb, le-ltb}
-use Rattle.method.specs.Walk.{Walk, Rules, State, stands, begun, start, afterDrop, afterSweep, going, pass, run, enough, walked}
+use Rattle.method.specs.Walk.{Walk, Rules, State, stands, afterDrop, afterSweep, going, pass, run}
 
 -- ---- whether there is a pass to do
 

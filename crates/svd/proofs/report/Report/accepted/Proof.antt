@@ -1,5 +1,4 @@
 -- `Report::accepted` meets its contract: the word by the range. Assumes nothing.
-use borrow.Author.Needs.{needs}
 use mathlib.Core.Path.{refl}
 use borrow.Author.Tests.{eq-eqb, ne-eqb}
 use Rattle.svd.proofs.report.Report.accepted.Statement.{statement}
