@@ -3,7 +3,7 @@ use mathlib.Core.Path.{_≡_, refl, sym, ap, _∙_}
 use mathlib.Core.Bool.{false}
 use mathlib.Core.Option.{some}
 use mathlib.Core.List.{List, [], _∷_, _++_, append-assoc, append-nil, map}
-use Prim.Native.Nat.{ℕ, zero, suc, _+_, _-_, _*_, _^_, _<_, _≤_}
+use Prim.Native.Nat.{ℕ, zero, suc, _+_, _-_, _*_, _<_, _≤_}
 use native.Mathlib.Omega.{arith}
 use native.Mathlib.Nat.{zero-mul, suc-mul}
 use lib.Dec.{T}
@@ -12,24 +12,20 @@ use lib.Ieee.Bits.{ofBits-toBits, toBits-lt, ofBits-fits}
 use lib.ListN.{length, take, drop, length-drop, length-map, take-append-drop}
 use lib.Seq.{length-take-le}
 use Rattle.text.specs.Text.{Bytes, LF, space, _>>=_, when, pattern, shown, ending, lineText}
-use Rattle.text.specs.Numerals.{pattern-is}
 use Rattle.survey.specs.declared.reading.Entry.{Entry}
 use Rattle.survey.specs.Form.{countLine, rowLine, entryLine, named, got, line, andThen, contents, body, bodies, head, reading, Survey}
 use Rattle.survey.specs.Found.{InRange, short-some}
 use Rattle.survey.specs.LineSize.{row-short, entry-size, count-size}
 use Rattle.survey.specs.Whole.{All}
 use Rattle.survey.specs.Print.{hex, rowText, rowsText}
-use Rattle.survey.specs.Writing.{length-hex}
 use Rattle.text.specs.Cuts.{Free, cut-free, free-append}
-use Rattle.text.specs.Round.{digits-free, digits-value, number-round, shown-free}
+use Rattle.text.specs.Round.{pattern-round, digits-free, number-round, shown-free}
 
 -- ---- a reading's 16 digits
 
 pub hex-pattern : (x : Float) → T (fits binary64 x) → pattern (hex x) ≡ some (toBits binary64 x)
 unfolding hex
-hex-pattern x f =
-    let l : toBits binary64 x < 16 ^ 16 = omega (arith, toBits-lt binary64 x f) in
-    pattern-is (hex x) (length-hex x) ∙ digits-value 16 16 (toBits binary64 x) 0 (omega arith) (omega arith) l ∙ ap some (omega arith)
+hex-pattern x f = pattern-round (toBits binary64 x) (toBits-lt binary64 x f)
 
 pub hex-round : (x : Float) → T (fits binary64 x) → (pattern (hex x) >>= λ p. some (ofBits binary64 p)) ≡ some x
 unfolding _>>=_

@@ -28,7 +28,8 @@ mod writing;
 fn decomposed(m: &mut [f64], rows: usize, cols: usize) -> Report
     requires { ⌜ (rows ≤ 48) × (cols ≤ 48) × (rows * cols ≤ length (now m)) ⌝ }
     ensures { λ r. ⌜ (outcomeOf (reportOf r) (work (take (rows * cols) (now (m .exit))) [] [])
-        ≡ plainOutcome binary64 rows cols defaults (take (rows * cols) (now (m .entry)))) × (length (now (m .exit)) ≡ length (now (m .entry))) ⌝ }
+        ≡ plainOutcome binary64 rows cols defaults (take (rows * cols) (now (m .entry))))
+        × (length (now (m .exit)) ≡ length (now (m .entry))) ⌝ }
 {
     let n = rows * cols;
     svd::interface::svd_decomposition(&mut m[..n], rows, cols, Settings::new())
@@ -46,8 +47,8 @@ fn put_survey(out: &mut [u8], at: usize, e: Entry, m: &mut [f64]) -> usize
     put_outcome(out, at, e, report, m)
 }
 
-// The whole of what `split` prints of the bytes `text`, written into out from its first byte on, where there is always room; how many bytes it has. What
-// follows them in out stays as it was.
+// The whole of what `split` prints of the bytes `text`, written into out from its first byte on, where there is
+// always room; how many bytes it has. What follows them in out stays as it was.
 pub fn split_text(text: &[u8], out: &mut [u8; 314000]) -> usize
     ensures { λ r. ⌜ Written (now (out .entry)) 0 (split (now (text .entry))) (now (out .exit)) r × (r ≤ 314000) ⌝ }
 {

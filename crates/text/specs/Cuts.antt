@@ -58,7 +58,8 @@ unfolding cut indexOf indexAfter cutAt _>>=_
 cut-index stop [] = refl
 cut-index stop (b ∷ t) = go (eqb b stop) refl (cut-index stop t)
   where
-    go : (x : Bool) → eqb b stop ≡ x → cut stop t ≡ cutAt t (indexOf stop t) → cut stop (b ∷ t) ≡ cutAt (b ∷ t) (indexOf stop (b ∷ t))
+    go : (x : Bool) → eqb b stop ≡ x → cut stop t ≡ cutAt t (indexOf stop t)
+        → cut stop (b ∷ t) ≡ cutAt (b ∷ t) (indexOf stop (b ∷ t))
     go true x ih =
         let z : indexOf stop (b ∷ t) ≡ 0 = rw (indexOf, x) in
         let p : cut stop (b ∷ t) ≡ some ([], t) = rw (cut, x) in
@@ -101,12 +102,14 @@ module _ (stop : ℕ) (l : Bytes) (p e : ℕ) (f : e ≡ found stop p l) where
 pub rest-of : (l : Bytes) (p : ℕ) → take (length l - p) (drop p l) ≡ drop p l
 rest-of l p = take-all (length l - p) (drop p l) (simp length-drop (omega arith))
 
-pub cut-size : (stop : ℕ) (l : Bytes) (p : Bytes × Bytes) → cut stop l ≡ some p → length l ≡ length (p .0) + 1 + length (p .1)
+pub cut-size : (stop : ℕ) (l : Bytes) (p : Bytes × Bytes) → cut stop l ≡ some p
+    → length l ≡ length (p .0) + 1 + length (p .1)
 unfolding cut
 cut-size stop [] p e = absurd (let z : _≡_ {A = ℕ} 0 1 = cc in omega arith)
 cut-size stop (b ∷ t) p e = go (eqb b stop) refl (λ q. cut-size stop t q)
   where
-    go : (x : Bool) → eqb b stop ≡ x → ((q : Bytes × Bytes) → cut stop t ≡ some q → length t ≡ length (q .0) + 1 + length (q .1))
+    go : (x : Bool) → eqb b stop ≡ x
+        → ((q : Bytes × Bytes) → cut stop t ≡ some q → length t ≡ length (q .0) + 1 + length (q .1))
         → suc (length t) ≡ length (p .0) + 1 + length (p .1)
     go true x ih =
         let q : some ([], t) ≡ some p = rw (cut, x) at e in

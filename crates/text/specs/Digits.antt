@@ -36,7 +36,8 @@ module _ (b : ℕ) where
 -- ---- the digits of a slice, one at a time
 
 module _ (base v : ℕ) (l : Bytes) (i : ℕ) (h : i < length l) where
-  pub value-next : worth (getD l i 0) < base → value base v (drop i l) ≡ value base (v * base + worth (getD l i 0)) (drop (i + 1) l)
+  pub value-next : worth (getD l i 0) < base
+      → value base v (drop i l) ≡ value base (v * base + worth (getD l i 0)) (drop (i + 1) l)
   unfolding value
   value-next d = rw (value, drop-cons l i 0 h, lt-ltb (worth (getD l i 0)) base d, add-one i)
 

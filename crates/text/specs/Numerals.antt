@@ -23,14 +23,16 @@ unfolding value
 value-least base [] v w e = let z : v ≡ w = cc in omega (arith, ap (λ (p : ℕ). v * p) (pow-zero base))
 value-least base (b ∷ t) v w e = go (ltb (worth b) base) refl (λ h. value-least base t (v * base + worth b) w h)
   where
-    more : value base (v * base + worth b) t ≡ some w → (v * base + worth b) * base ^ length t ≤ w → v * base ^ suc (length t) ≤ w
+    more : value base (v * base + worth b) t ≡ some w → (v * base + worth b) * base ^ length t ≤ w
+        → v * base ^ suc (length t) ≤ w
     more h k =
         let p : base ^ suc (length t) ≡ base * base ^ length t = pow-succ' base (length t) in
         let q : v * (base * base ^ length t) ≡ v * base * base ^ length t = sym (mul-assoc v base (base ^ length t)) in
         let m : v * base * base ^ length t ≤ (v * base + worth b) * base ^ length t = mul-le-mul-right (base ^ length t) (omega arith) in
         rw p (rw q (omega arith))
 
-    go : (x : Bool) → ltb (worth b) base ≡ x → (value base (v * base + worth b) t ≡ some w → (v * base + worth b) * base ^ length t ≤ w)
+    go : (x : Bool) → ltb (worth b) base ≡ x
+        → (value base (v * base + worth b) t ≡ some w → (v * base + worth b) * base ^ length t ≤ w)
         → v * base ^ suc (length t) ≤ w
     go true x ih = let h : value base (v * base + worth b) t ≡ some w = rw (value, x) at e in more h (ih h)
     go false x ih = let h : none ≡ some w = rw (value, x) at e in absurd (let z : _≡_ {A = ℕ} 0 1 = cc in omega arith)
@@ -49,7 +51,8 @@ value-below base (b ∷ t) v w e = go (ltb (worth b) base) refl (λ h. value-bel
         let m : (v * base + worth b + 1) * base ^ length t ≤ (v + 1) * base * base ^ length t = mul-le-mul-right (base ^ length t) n in
         rw p (rw q (omega (arith, k, m)))
 
-    go : (x : Bool) → ltb (worth b) base ≡ x → (value base (v * base + worth b) t ≡ some w → w < (v * base + worth b + 1) * base ^ length t)
+    go : (x : Bool) → ltb (worth b) base ≡ x
+        → (value base (v * base + worth b) t ≡ some w → w < (v * base + worth b + 1) * base ^ length t)
         → w < (v + 1) * base ^ suc (length t)
     go true x ih = let h : value base (v * base + worth b) t ≡ some w = rw (value, x) at e in more (ltb-true (worth b) base x) (ih h)
     go false x ih = let h : none ≡ some w = rw (value, x) at e in absurd (let z : _≡_ {A = ℕ} 0 1 = cc in omega arith)
@@ -65,7 +68,8 @@ module _ (v base d : ℕ) (h : d < base) (b : base ≤ 16) where
   pub over-large : ltb ((0xffff_ffff_ffff_ffff - d) / base) v ≡ leb (2 ^ 64) (v * base + d)
   over-large = go (ltb ((0xffff_ffff_ffff_ffff - d) / base) v) refl
     where
-      go : (x : Bool) → ltb ((0xffff_ffff_ffff_ffff - d) / base) v ≡ x → ltb ((0xffff_ffff_ffff_ffff - d) / base) v ≡ leb (2 ^ 64) (v * base + d)
+      go : (x : Bool) → ltb ((0xffff_ffff_ffff_ffff - d) / base) v ≡ x
+          → ltb ((0xffff_ffff_ffff_ffff - d) / base) v ≡ leb (2 ^ 64) (v * base + d)
       go true x =
           let q : 0xffff_ffff_ffff_ffff - d < v * base = div-lt-iff-lt-mul {k = base} (omega arith) .0 (ltb-true _ v x) in
           x ∙ sym (le-leb (2 ^ 64) (v * base + d) (omega arith))
@@ -76,7 +80,8 @@ module _ (v base d : ℕ) (h : d < base) (b : base ≤ 16) where
 
 -- ---- the value of digits, where it is below 2 ^ 64
 
-pub numeral-based : (base : ℕ) (l : Bytes) → base ≤ 16 → numeral base l ≡ (value base 0 l >>= λ n. when (ltb n (2 ^ 64)) n)
+pub numeral-based : (base : ℕ) (l : Bytes) → base ≤ 16
+    → numeral base l ≡ (value base 0 l >>= λ n. when (ltb n (2 ^ 64)) n)
 unfolding numeral
 numeral-based base l h = rw (numeral, le-leb base 16 h)
 
@@ -96,7 +101,8 @@ pub numeral-below : (base : ℕ) (l : Bytes) (v : ℕ) → base ≤ 16 → numer
 numeral-below base l v h e = omega (arith, value-below base l 0 v (numeral-some base l v h e))
 
 -- where it says none, there is no value or it is too large
-pub numeral-none : (base : ℕ) (l : Bytes) (w : ℕ) → base ≤ 16 → numeral base l ≡ none → value base 0 l ≡ some w → 2 ^ 64 ≤ w
+pub numeral-none : (base : ℕ) (l : Bytes) (w : ℕ) → base ≤ 16 → numeral base l ≡ none → value base 0 l ≡ some w
+    → 2 ^ 64 ≤ w
 unfolding _>>=_ when
 numeral-none base l w h e f = go (ltb w (2 ^ 64)) refl
   where
@@ -127,7 +133,8 @@ module _ (base v : ℕ) (l : Bytes) (i : ℕ) (b : base ≤ 16) (inv : value bas
             let m : (v * base + worth (getD l i 0)) * 1 ≤ (v * base + worth (getD l i 0)) * base ^ length (drop (i + 1) l) = mul-le-mul-left (v * base + worth (getD l i 0)) p in
             omega (arith, value-least base (drop (i + 1) l) (v * base + worth (getD l i 0)) w e)
 
-        go : (o : Option ℕ) → value base (v * base + worth (getD l i 0)) (drop (i + 1) l) ≡ o → (o >>= λ n. when (ltb n (2 ^ 64)) n) ≡ none
+        go : (o : Option ℕ) → value base (v * base + worth (getD l i 0)) (drop (i + 1) l) ≡ o
+            → (o >>= λ n. when (ltb n (2 ^ 64)) n) ≡ none
         go none e = refl
         go (some w) e = rw (le-ltb w (2 ^ 64) (big w e))
 
@@ -188,7 +195,8 @@ pub number-pos : (most : ℕ) (l : Bytes) (x : ℕ) → x ≡ orZero (number mos
 unfolding number when _>>=_
 number-pos most l x e = go (decimal l) refl
   where
-    test : (n : ℕ) (t : Bool) → (leb 1 n && leb n most) ≡ t → x ≡ orZero (when t n) → (x ≡ 0 → when t n ≡ none) × ((x ≡ 0 → ⊥) → when t n ≡ some x)
+    test : (n : ℕ) (t : Bool) → (leb 1 n && leb n most) ≡ t → x ≡ orZero (when t n)
+        → (x ≡ 0 → when t n ≡ none) × ((x ≡ 0 → ⊥) → when t n ≡ some x)
     test n false h q = ((λ z. refl), (λ z. absurd (z q)))
     test zero true h q = absurd (let w : false ≡ true = h in let y : _≡_ {A = ℕ} 0 1 = cc in omega arith)
     test (suc n) true h q = ((λ z. absurd (omega arith)), (λ z. ap some (sym q)))

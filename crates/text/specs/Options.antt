@@ -8,7 +8,8 @@ use Rattle.text.specs.declared.numerals.Number.the-variants.{Is, Not}
 use Rattle.text.specs.Text.{_>>=_, when}
 use Rattle.text.specs.Code.{numberOf}
 
-pub bind-some : {A B : Type 0} (o : Option A) (f : A → Option B) (b : B) → (o >>= f) ≡ some b → (a : A) × (o ≡ some a) × (f a ≡ some b)
+pub bind-some : {A B : Type 0} (o : Option A) (f : A → Option B) (b : B) → (o >>= f) ≡ some b
+    → (a : A) × (o ≡ some a) × (f a ≡ some b)
 unfolding _>>=_
 bind-some none f b e = absurd (let z : _≡_ {A = ℕ} 0 1 = cc in omega arith)
 bind-some (some a) f b e = (a, refl, e)

@@ -33,12 +33,14 @@ unfolding value _>>=_
 value-append base [] t v = refl
 value-append base (b ∷ s) t v = go (ltb (worth b) base) refl (value-append base s t (v * base + worth b))
   where
-    go : (x : Bool) → ltb (worth b) base ≡ x → value base (v * base + worth b) (s ++ t) ≡ (value base (v * base + worth b) s >>= λ w. value base w t)
+    go : (x : Bool) → ltb (worth b) base ≡ x
+        → value base (v * base + worth b) (s ++ t) ≡ (value base (v * base + worth b) s >>= λ w. value base w t)
         → value base v (b ∷ (s ++ t)) ≡ (value base v (b ∷ s) >>= λ w. value base w t)
     go true x ih = rw (value, x) ih
     go false x ih = rw (value, x)
 
-pub digits-value : (base k n v : ℕ) → 0 < base → base ≤ 16 → n < base ^ k → value base v (digits base k n) ≡ some (v * base ^ k + n)
+pub digits-value : (base k n v : ℕ) → 0 < base → base ≤ 16 → n < base ^ k
+    → value base v (digits base k n) ≡ some (v * base ^ k + n)
 unfolding value digits _>>=_
 digits-value base zero n v p q h =
     let z : base ^ 0 ≡ 1 = pow-zero base in
@@ -93,7 +95,9 @@ unfolding shown digits
 first-shown zero n h p = absurd (omega arith)
 first-shown (suc f) n h p = go (ltb n 10) refl (first-shown f (n / 10))
   where
-    go : (x : Bool) → ltb n 10 ≡ x → (n / 10 ≤ f → 0 < n / 10 → (b : ℕ) × (t : Bytes) × (shown (n / 10) ≡ b ∷ t) × (b ≡ 48 → ⊥)) → (b : ℕ) × (t : Bytes) × (shown n ≡ b ∷ t) × (b ≡ 48 → ⊥)
+    go : (x : Bool) → ltb n 10 ≡ x
+        → (n / 10 ≤ f → 0 < n / 10 → (b : ℕ) × (t : Bytes) × (shown (n / 10) ≡ b ∷ t) × (b ≡ 48 → ⊥))
+        → (b : ℕ) × (t : Bytes) × (shown n ≡ b ∷ t) × (b ≡ 48 → ⊥)
     go true x ih =
         let l = ltb-true n 10 x in
         let m : n % 10 ≡ n = omega arith in

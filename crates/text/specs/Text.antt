@@ -1,5 +1,5 @@
--- Texts: bytes, numerals, and lines of fields one space apart, each ended by LF; how they are read and how they are written.
--- Definitions only.
+-- Texts: bytes, numerals, and lines of fields one space apart, each ended by LF; how they are read and how they are
+-- written. Definitions only.
 use mathlib.Core.Path.{_≡_}
 use mathlib.Core.Bool.{Bool, true, false, _&&_}
 use mathlib.Core.Option.{Option, none, some}
@@ -109,7 +109,8 @@ pub record Put : Type 0 where
 abbrev pub leaves : Bytes → ℕ → Put
 leaves l r = record { bytes = l; end = r }
 
--- The bytes s stored in l from `at` on, and where they end; where they have no room, l as it was and a number past its end.
+-- The bytes s stored in l from `at` on, and where they end; where they have no room, l as it was and a number past its
+-- end.
 unfoldable pub putAt : ℕ → Bytes → Bytes → Put
 putAt at s l =
     elim (leb (at + length s) (length l)) [

@@ -24,7 +24,8 @@ places-fuel zero (suc g) n a b = let z : n ≡ 0 = omega arith in rw z
 places-fuel (suc f) zero n a b = let z : n ≡ 0 = omega arith in rw z
 places-fuel (suc f) (suc g) n a b = go (ltb n 10) refl (λ h. places-fuel f g (n / 10) (omega arith) (omega arith))
   where
-    go : (x : Bool) → ltb n 10 ≡ x → (10 ≤ n → placesBy f (n / 10) ≡ placesBy g (n / 10)) → placesBy (suc f) n ≡ placesBy (suc g) n
+    go : (x : Bool) → ltb n 10 ≡ x → (10 ≤ n → placesBy f (n / 10) ≡ placesBy g (n / 10))
+        → placesBy (suc f) n ≡ placesBy (suc g) n
     go true x ih = rw (placesBy, x)
     go false x ih = let h = ih (ltb-false n 10 x) in rw (placesBy, x) (ap suc h)
 
@@ -47,7 +48,8 @@ pub places-most : (k n : ℕ) → n < 10 ^ suc k → placesBy n n ≤ suc k
 places-most zero n h = omega (arith, places-end n (omega arith))
 places-most (suc k) n h = go (ltb n 10) refl (places-most k (n / 10))
   where
-    go : (x : Bool) → ltb n 10 ≡ x → (n / 10 < 10 ^ suc k → placesBy (n / 10) (n / 10) ≤ suc k) → placesBy n n ≤ suc (suc k)
+    go : (x : Bool) → ltb n 10 ≡ x → (n / 10 < 10 ^ suc k → placesBy (n / 10) (n / 10) ≤ suc k)
+        → placesBy n n ≤ suc (suc k)
     go true x ih = omega (arith, places-end n (ltb-true n 10 x))
     go false x ih =
         let g : n < 10 ^ suc k * 10 = rw pow-suc at h in
@@ -88,7 +90,8 @@ pub length-field : (k n : ℕ) → k ≡ placesBy n n + 1 → length (space ∷ 
 length-field k n e = omega (arith, length-shown n)
 
 -- the code's stores of a space and the digits
-pub field-stored : (at k n : ℕ) (l o : Bytes) → k ≡ placesBy n n + 1 → o ≡ sets (set l at 32) (at + 1) (digits 10 (k - 1) n) → o ≡ sets l at (space ∷ shown n)
+pub field-stored : (at k n : ℕ) (l o : Bytes) → k ≡ placesBy n n + 1
+    → o ≡ sets (set l at 32) (at + 1) (digits 10 (k - 1) n) → o ≡ sets l at (space ∷ shown n)
 unfolding shown
 field-stored at k n l o e h =
     let p : k - 1 ≡ placesBy n n = omega arith in
@@ -101,7 +104,8 @@ pub record Wrote (out : Bytes) (at : ℕ) (s : Bytes) (out₁ : Bytes) (end : �
   pub fits : at + length s ≤ length out → Written out at s out₁ end
   pub past : length out < at + length s → length out < end
 
-pub wrote : (out : Bytes) (at : ℕ) (s out₁ : Bytes) (end : ℕ) → leaves out₁ end ≡ putAt at s out → Wrote out at s out₁ end
+pub wrote : (out : Bytes) (at : ℕ) (s out₁ : Bytes) (end : ℕ) → leaves out₁ end ≡ putAt at s out
+    → Wrote out at s out₁ end
 wrote out at s out₁ end e = go (leb (at + length s) (length out)) refl
   where
     go : (x : Bool) → leb (at + length s) (length out) ≡ x → Wrote out at s out₁ end
@@ -118,12 +122,22 @@ wrote out at s out₁ end e = go (leb (at + length s) (length out)) refl
         let h = leb-false (at + length s) (length out) x in
         record { kept = ap length l; fits = λ g. absurd (omega arith); past = λ _. omega arith }
 
+-- where the answer is within the length, all was written
+pub all-written : {out out₁ s : Bytes} {at end : ℕ} → Wrote out at s out₁ end → end ≤ length out
+    → Written out at s out₁ end
+all-written {out} {out₁} {s} {at} {end} w h = go (leb (at + length s) (length out)) refl
+  where
+    go : (x : Bool) → leb (at + length s) (length out) ≡ x → Written out at s out₁ end
+    go true x = w .fits (leb-true (at + length s) (length out) x)
+    go false x = absurd (omega (arith, w .past (leb-false (at + length s) (length out) x)))
+
 -- nothing written
 pub nothing : (out : Bytes) (at : ℕ) → Wrote out at [] out at
 nothing out at = record { kept = refl; fits = λ h. record { stored = refl; ends = omega arith }; past = λ h. omega arith }
 
 -- one text after the other
-pub then : {out o₁ o₂ : Bytes} {at a b : ℕ} {s t : Bytes} → Wrote out at s o₁ a → Wrote o₁ a t o₂ b → Wrote out at (s ++ t) o₂ b
+pub then : {out o₁ o₂ : Bytes} {at a b : ℕ} {s t : Bytes} → Wrote out at s o₁ a → Wrote o₁ a t o₂ b
+    → Wrote out at (s ++ t) o₂ b
 then {out} {o₁} {o₂} {at} {a} {b} {s} {t} x y =
     record {
       kept = y .kept ∙ x .kept;

@@ -2,7 +2,8 @@
 ghost use mathlib.Core.Path.{_≡_};
 ghost use Prim.Native.Nat.{_+_, _*_, _^_, _<_, _≤_};
 ghost use lib.Dec.{leb};
-ghost use Rattle.text.specs.Text.{worth as worthOf, numeral, number, pattern as patternIn, digit as digitOf, placesBy};
+ghost use Rattle.text.specs.Text.{worth as worthOf, numeral, number, pattern as patternIn};
+ghost use Rattle.text.specs.Text.{digit as digitOf, placesBy};
 ghost use Rattle.text.specs.Code.{numberOf, orZero};
 
 // What a numeral says.
