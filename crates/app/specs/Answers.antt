@@ -1,5 +1,5 @@
 -- An answer tells its outcome, and any two answers that a promise allows are equal. Assumes nothing.
-use mathlib.Core.Path.{_≡_, refl, sym, ap, _∙_}
+use mathlib.Core.Path.{_≡_, sym, ap, _∙_}
 use Rattle.method.specs.Work.{Work}
 use Rattle.method.specs.Report.{Report}
 use Rattle.method.specs.Outcome.{Outcome, outcomeOf}

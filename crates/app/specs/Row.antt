@@ -1,8 +1,8 @@
 -- Where a row lies within U or V, and that it is the row which the method views. Assumes nothing.
 use mathlib.Core.Path.{_≡_, refl, sym, ap, _∙_}
 use mathlib.Core.Bool.{Bool, true, false, true≢false}
-use mathlib.Core.List.{List, []}
-use Prim.Native.Nat.{ℕ, _+_, _*_, _≤_}
+use mathlib.Core.List.{List}
+use Prim.Native.Nat.{ℕ, _*_, _≤_}
 use native.Mathlib.Omega.{arith}
 use lib.Dec.{eqb}
 use lib.ListN.{length, take, drop}
@@ -10,7 +10,7 @@ use lib.Ieee.{Float}
 use Rattle.method.specs.Floats.{pick}
 use Rattle.method.specs.Index.{few}
 use Rattle.method.specs.View.{viewFit, rowViewed}
-use Rattle.method.specs.View.Rows.{ViewFit, view-fit, row-viewed, row-viewed-length, row-refused}
+use Rattle.method.specs.View.Rows.{view-fit, row-viewed, row-viewed-length, row-refused}
 use Rattle.app.specs.declared.Part.{Part}
 
 abbrev pub part : ℕ → ℕ → Part

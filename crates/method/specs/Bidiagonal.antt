@@ -9,7 +9,7 @@ use borrow.Author.Tests.{eq-eqb, ne-eqb}
 use lib.ListN.{getD, set}
 use lib.Ieee.{Float, nan, Format, eq}
 use Rattle.method.specs.Floats.{plusZero}
-use Rattle.method.specs.Turns.{turns}
+use Rattle.method.specs.Repeated.{repeated}
 use Rattle.method.specs.Work.{Work, Shape}
 use Rattle.method.specs.Reflection.{Reflection, lineCopied, lineCleared, reflectionOf, reflectedRight, reflectedLeft}
 
@@ -77,7 +77,7 @@ thenZeroed f floor z false k w = columnZeroed f floor z (k + 1) k w
 
 -- the first n places of the diagonal, one after another
 unfoldable pub placesZeroed : Format → Float → Shape → Bool → ℕ → Work → Work
-placesZeroed f floor z upper n w = turns 0 n (λ k s. thenZeroed f floor z upper k (firstZeroed f floor z upper k s)) w
+placesZeroed f floor z upper n w = repeated 0 n (λ k s. thenZeroed f floor z upper k (firstZeroed f floor z upper k s)) w
 
 -- All places but the last; then the last, where the table is not square. `c` is the smaller of rows and columns.
 unfoldable pub bidiagonal : Format → Float → Shape → Bool → ℕ → Work → Work

@@ -3,12 +3,11 @@
 use mathlib.Core.Path.{_≡_, refl}
 use mathlib.Core.List.{List, [], _∷_, _++_, map}
 use Prim.Native.Nat.{ℕ}
-use lib.ListN.{set}
-use lib.Ieee.{Float, binary64, round, neg, add, sub, mul, div, lt, eq, isNan, ofBits, toBits}
+use lib.Ieee.{Float, binary64, neg, add, sub, mul, div, lt, eq, isNan, ofBits, toBits}
 use Rattle.method.specs.Floats.{magnitude, signOf, smaller, larger}
-use Rattle.method.specs.Root.{wholeRoot, rooted, squareRoot}
-use Rattle.method.specs.Turns.{go, turns}
-use Rattle.method.specs.Work.{Work, work}
+use Rattle.method.specs.Root.{squareRoot}
+use Rattle.method.specs.Repeated.{go, repeated}
+use Rattle.method.specs.Work.{work}
 use Rattle.method.specs.Rotation.{Rotation, rotationOf, pairTurned, rowsTurned, columnsTurned}
 use Rattle.method.specs.Reflection.{lineCopied, lineCleared, timesFrom, largestOf, scaled, squaresOf, reflectionOf, rowTimes, tailLess, rowLess, rowReflected, reflectedRight, rowAdded, rowsAdded, columnSums, rowLessAll, rowLessTimes, lowerLess, rowsLess, reflectedLeft}
 use Rattle.method.specs.Bidiagonal.{columnMatrix, rowMatrix, factorReflected, columnZeroed, rowZeroed, placesZeroed, bidiagonal}
@@ -17,7 +16,7 @@ use Rattle.method.specs.Walk.{pass, run}
 use Rattle.method.specs.Checks.{firstOf, firstBad}
 use Rattle.method.specs.Fill.{identity}
 use Rattle.method.specs.Report.{Word, none, settled, stopped, Report}
-use Rattle.method.specs.Outcome.{Outcome, accepted, outcome, plainOutcome, fullOutcome}
+use Rattle.method.specs.Outcome.{accepted, outcome, plainOutcome, fullOutcome}
 use Rattle.method.specs.Settings.{Settings}
 use Rattle.method.specs.Defaults.{defaultTolerance, defaultAbsolute, defaultFloor}
 
@@ -124,7 +123,7 @@ fourteen =
     ∷ []
 
 pub cases : (computed (ofBits binary64 0x0010_0000_0000_0000) ≡ fourteen) × (computed defaultFloor ≡ fourteen)
-unfolding ofBits toBits neg add sub mul div lt eq isNan magnitude signOf smaller larger squareRoot go turns rotationOf pairTurned rowsTurned columnsTurned lineCopied lineCleared timesFrom largestOf scaled squaresOf reflectionOf rowTimes tailLess rowLess rowReflected reflectedRight rowAdded rowsAdded columnSums rowLessAll rowLessTimes lowerLess rowsLess reflectedLeft columnMatrix rowMatrix factorReflected columnZeroed rowZeroed placesZeroed bidiagonal turned singular negligible steps swept pass run firstOf firstBad accepted outcome identity defaultTolerance defaultAbsolute defaultFloor
+unfolding ofBits toBits neg add sub mul div lt eq isNan magnitude signOf smaller larger squareRoot go repeated rotationOf pairTurned rowsTurned columnsTurned lineCopied lineCleared timesFrom largestOf scaled squaresOf reflectionOf rowTimes tailLess rowLess rowReflected reflectedRight rowAdded rowsAdded columnSums rowLessAll rowLessTimes lowerLess rowsLess reflectedLeft columnMatrix rowMatrix factorReflected columnZeroed rowZeroed placesZeroed bidiagonal turned singular negligible steps swept pass run firstOf firstBad accepted outcome identity defaultTolerance defaultAbsolute defaultFloor
 cases = (refl, refl)
 
 -- ---- slips that a porter is drawn to, each with a row that shows it: the answers are the original's
@@ -183,5 +182,5 @@ original =
     ∷ []
 
 pub slips : shown ≡ original
-unfolding ofBits toBits neg add sub mul div lt eq isNan magnitude signOf smaller larger squareRoot go turns rotationOf pairTurned rowsTurned columnsTurned lineCopied lineCleared timesFrom largestOf scaled squaresOf reflectionOf rowTimes tailLess rowLess rowReflected reflectedRight rowAdded rowsAdded columnSums rowLessAll rowLessTimes lowerLess rowsLess reflectedLeft columnMatrix rowMatrix factorReflected columnZeroed rowZeroed placesZeroed bidiagonal turned singular negligible steps swept pass run firstOf firstBad accepted outcome identity defaultTolerance defaultAbsolute defaultFloor
+unfolding ofBits toBits neg add sub mul div lt eq isNan magnitude signOf smaller larger squareRoot go repeated rotationOf pairTurned rowsTurned columnsTurned lineCopied lineCleared timesFrom largestOf scaled squaresOf reflectionOf rowTimes tailLess rowLess rowReflected reflectedRight rowAdded rowsAdded columnSums rowLessAll rowLessTimes lowerLess rowsLess reflectedLeft columnMatrix rowMatrix factorReflected columnZeroed rowZeroed placesZeroed bidiagonal turned singular negligible steps swept pass run firstOf firstBad accepted outcome identity defaultTolerance defaultAbsolute defaultFloor
 slips = refl

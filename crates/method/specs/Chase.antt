@@ -4,15 +4,14 @@
 use mathlib.Core.Path.{_≡_, ap, _∙_}
 use mathlib.Core.Bool.{Bool, true, false, not}
 use mathlib.Core.List.{List}
-use Prim.Native.Nat.{ℕ, _+_, _-_, _*_}
+use Prim.Native.Nat.{ℕ, _+_, _*_}
 use native.Mathlib.Nat.{zero-mul, add-zero}
 use lib.ListN.{getD}
 use lib.Ieee.{Float, nan, Format, add, sub, mul, div, lt}
 use Rattle.method.specs.Floats.{plusZero, two, magnitude, signOf, smaller, larger}
 use Rattle.method.specs.Root.{squareRoot}
-use Rattle.method.specs.Turns.{turns}
-use Rattle.method.specs.Work.{Work, Shape, at}
-use Rattle.method.specs.Positions.{couplingPlace}
+use Rattle.method.specs.Repeated.{repeated}
+use Rattle.method.specs.Work.{Work, Shape, at, couplingPlace}
 use Rattle.method.specs.Rotation.{Rotation, rotationOf, rowsTurned, columnsTurned}
 
 -- ---- lines: rows (true) or columns (false)
@@ -82,7 +81,7 @@ stepped f z upper k w = pushed f z (not upper) (k + 1) k 3 (pushed f z upper k k
 
 -- the first n steps down the diagonal
 unfoldable pub steps : Format → Shape → Bool → ℕ → Work → Work
-steps f z upper n w = turns 0 n (stepped f z upper) w
+steps f z upper n w = repeated 0 n (stepped f z upper) w
 
 -- The sweep over the live corner whose last 2 x 2 starts at (k, k). Its first turn is of columns in the upper form and of rows in the lower, its last
 -- the other way round.

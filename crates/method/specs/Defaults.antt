@@ -1,5 +1,4 @@
 -- The default settings: document 007's values, the floor among them. Definitions only.
-use Prim.Native.Nat.{ℕ}
 use lib.Ieee.{Float, binary64, ofBits}
 use Rattle.method.specs.Settings.{Settings}
 

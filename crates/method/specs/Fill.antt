@@ -7,13 +7,13 @@ use lib.Dec.{ltb, eqb}
 use lib.ListN.{length, set, replicate}
 use lib.Ieee.{Float}
 use Rattle.method.specs.Floats.{plusZero, one}
-use Rattle.method.specs.Turns.{turns}
+use Rattle.method.specs.Repeated.{repeated}
 use Rattle.method.specs.Settings.{mostSize}
 use Rattle.method.specs.Checks.{Check, check, firstOf}
 
 -- the identity of n rows and n columns
 unfoldable pub identity : ℕ → List Float
-identity n = turns 0 n (λ i a. set a (i * n + i) one) (replicate (n * n) plusZero)
+identity n = repeated 0 n (λ i a. set a (i * n + i) one) (replicate (n * n) plusZero)
 
 pub record Filled : Type 0 where
   pub number : ℕ

@@ -1,6 +1,6 @@
 -- Every operation of the method keeps the length of each list. Assumes nothing.
 use mathlib.Core.Path.{_≡_, refl, _∙_}
-use mathlib.Core.Bool.{Bool, true, false, not}
+use mathlib.Core.Bool.{Bool, true, false}
 use mathlib.Core.List.{List}
 use Prim.Native.Nat.{ℕ, _+_, _-_, _*_}
 use native.Mathlib.Omega.{arith}
@@ -11,11 +11,11 @@ use Rattle.method.specs.Floats.{plusZero}
 use Rattle.method.specs.Work.{Work, Shape, packed}
 use Rattle.method.specs.Rotation.{Rotation, rowsTurned-length, columnsTurned-length}
 use Rattle.method.specs.Reflection.{Reflection, reflectionOf, lineCleared-length, reflectionOf-entries, reflectedRight-length, reflectedLeft-length}
-use Rattle.method.specs.Bidiagonal.{columnReflection, headed, columnMatrix, rowMatrix, factorReflected, columnZeroed, rowZeroed, firstZeroed, thenZeroed, placesZeroed, bidiagonal, column-still, column-moved, row-still, row-moved, factor-still, factor-moved}
-use Rattle.method.specs.Chase.{turned, pushed, stepped, steps, swept, firstRotation}
+use Rattle.method.specs.Bidiagonal.{columnReflection, headed, columnMatrix, rowMatrix, factorReflected, columnZeroed, rowZeroed, bidiagonal, column-still, column-moved, row-still, row-moved, factor-still, factor-moved}
+use Rattle.method.specs.Chase.{turned, steps, swept}
 use Rattle.method.specs.Relation.Alone.{Holds, bidiagonal-holds, steps-holds, swept-holds, run-holds}
 use Rattle.method.specs.Checks.{refusalOf}
-use Rattle.method.specs.Outcome.{Outcome, walkedFrom, rulesOf, isUpper, card, accepted, outcome}
+use Rattle.method.specs.Outcome.{walkedFrom, card, accepted, outcome}
 use Rattle.method.specs.Settings.{Settings}
 
 -- the three lists of w have the lengths of w₀'s

@@ -2,7 +2,7 @@
 pub mod Floats
 pub mod Nans
 pub mod Root
-pub mod Turns
+pub mod Repeated
 pub mod Index
 pub mod Rotation
 pub mod Signs

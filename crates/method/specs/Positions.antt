@@ -5,7 +5,7 @@ use mathlib.Core.Bool.{Bool, true, false}
 use Prim.Native.Nat.{ℕ, zero, suc, _+_, _-_, _*_, _≤_, _<_}
 use native.Mathlib.Nat.{add-mul}
 use native.Mathlib.Omega.{arith}
-use Rattle.method.specs.Floats.{pick}
+use Rattle.method.specs.Work.{couplingPlace}
 use Rattle.method.specs.Walk.{Rules, start, run}
 use Rattle.method.specs.Walk.Counts.{reached}
 
@@ -24,11 +24,7 @@ same-corner :
     corner i c t b ≡ corner i′ c′ t′ b′
 same-corner inter coupling topLeft bottomLeft = cc
 
--- where the coupling stands: right of (k, k) in the upper form, below it in the lower
-abbrev pub couplingPlace : Bool → ℕ → ℕ → ℕ
-couplingPlace upper stride k = pick upper (k * stride + (k + 1)) ((k + 1) * stride + k)
-
--- it lies in the first k + 2 rows
+-- the coupling lies in the first k + 2 rows
 pub coupling-inside : (upper : Bool) (stride k : ℕ) → k + 2 ≤ stride → couplingPlace upper stride k < (k + 2) * stride
 coupling-inside true stride k h = omega arith
 coupling-inside false stride k h = omega arith

@@ -8,7 +8,7 @@ use lib.ListN.{length, getD, set, replicate, length-set}
 use lib.Ieee.{Float, nan, Format, add, sub, mul, div, neg, lt}
 use Rattle.method.specs.Floats.{plusZero, one, pick, magnitude, signOf}
 use Rattle.method.specs.Root.{squareRoot}
-use Rattle.method.specs.Turns.{turns, turns-keep}
+use Rattle.method.specs.Repeated.{repeated, repeated-keep}
 
 -- a scratch vector: 48 times +0
 abbrev pub blank : List Float
@@ -21,15 +21,15 @@ blank-length w e = ap length e
 
 -- a blank vector with the line's entries
 unfoldable pub lineCopied : ℕ → ℕ → ℕ → List Float → List Float
-lineCopied at step n a = turns 0 n (λ k w. set w k (getD a (at + k * step) nan)) blank
+lineCopied at step n a = repeated 0 n (λ k w. set w k (getD a (at + k * step) nan)) blank
 
 -- the line's entries set to +0
 unfoldable pub lineCleared : ℕ → ℕ → ℕ → List Float → List Float
-lineCleared at step n a = turns 0 n (λ k a. set a (at + k * step) plusZero) a
+lineCleared at step n a = repeated 0 n (λ k a. set a (at + k * step) plusZero) a
 
 -- entries lo to n - 1, each times x
 unfoldable pub timesFrom : Format → Float → ℕ → ℕ → List Float → List Float
-timesFrom f x lo n w = turns lo n (λ k w. set w k (mul f (getD w k nan) x)) w
+timesFrom f x lo n w = repeated lo n (λ k w. set w k (mul f (getD w k nan) x)) w
 
 -- ---- the reflection of n entries
 
@@ -39,15 +39,15 @@ widened m x = pick (lt m (magnitude x)) (magnitude x) m
 
 -- the largest magnitude among the n entries from `at` on
 unfoldable pub largestOf : List Float → ℕ → ℕ → Float
-largestOf v at n = turns 0 n (λ k m. widened m (getD v (at + k) nan)) plusZero
+largestOf v at n = repeated 0 n (λ k m. widened m (getD v (at + k) nan)) plusZero
 
 -- a blank vector with the n entries from `at` on, each times x
 unfoldable pub scaled : Format → List Float → ℕ → Float → ℕ → List Float
-scaled f v at x n = turns 0 n (λ k w. set w k (mul f (getD v (at + k) nan) x)) blank
+scaled f v at x n = repeated 0 n (λ k w. set w k (mul f (getD v (at + k) nan) x)) blank
 
 -- the sum of the squares of the first n entries
 unfoldable pub squaresOf : Format → List Float → ℕ → Float
-squaresOf f w n = turns 0 n (λ k s. add f s (mul f (getD w k nan) (getD w k nan))) plusZero
+squaresOf f w n = repeated 0 n (λ k s. add f s (mul f (getD w k nan) (getD w k nan))) plusZero
 
 -- `entries` is the whole list that the reflected run stands in, as making the reflection leaves it; `vector` has head 1
 pub record Reflection : Type 0 where
@@ -83,11 +83,11 @@ reflectionOf f floor at n v =
 
 -- a[off] + a[off + 1] * p[1] + .. + a[off + n - 1] * p[n - 1], added up from the left
 unfoldable pub rowTimes : Format → List Float → ℕ → ℕ → List Float → Float
-rowTimes f p off n a = turns 1 n (λ k sum. add f sum (mul f (getD a (off + k) nan) (getD p k nan))) (getD a off nan)
+rowTimes f p off n a = repeated 1 n (λ k sum. add f sum (mul f (getD a (off + k) nan) (getD p k nan))) (getD a off nan)
 
 -- entries 1 to n - 1 of the row at `off`, less x times p
 unfoldable pub tailLess : Format → List Float → Float → ℕ → ℕ → List Float → List Float
-tailLess f p x off n a = turns 1 n (λ k a. set a (off + k) (sub f (getD a (off + k) nan) (mul f x (getD p k nan)))) a
+tailLess f p x off n a = repeated 1 n (λ k a. set a (off + k) (sub f (getD a (off + k) nan) (mul f x (getD p k nan)))) a
 
 -- the row of n entries from `off` on, less x times p, whose head counts as 1
 unfoldable pub rowLess : Format → List Float → Float → ℕ → ℕ → List Float → List Float
@@ -99,17 +99,17 @@ rowReflected f p tau off n a = rowLess f p (mul f (rowTimes f p off n a) tau) of
 
 -- the reflection of the `rows` rows from i on, in the `cols` columns from j on
 unfoldable pub reflectedRight : Format → List Float → Float → ℕ → ℕ → ℕ → ℕ → ℕ → List Float → List Float
-reflectedRight f p tau stride i j rows cols a = turns 0 rows (λ k. rowReflected f p tau ((i + k) * stride + j) cols) a
+reflectedRight f p tau stride i j rows cols a = repeated 0 rows (λ k. rowReflected f p tau ((i + k) * stride + j) cols) a
 
 -- ---- from the left: the rows' sum first, then each row less its share
 
 -- w plus x times the row at `off`
 unfoldable pub rowAdded : Format → List Float → Float → ℕ → ℕ → List Float → List Float
-rowAdded f a x off n w = turns 0 n (λ l w. set w l (add f (getD w l nan) (mul f x (getD a (off + l) nan)))) w
+rowAdded f a x off n w = repeated 0 n (λ l w. set w l (add f (getD w l nan) (mul f x (getD a (off + l) nan)))) w
 
 -- w plus p[k] times row i + k, for k from 1 to rows - 1, in the `cols` columns from j on
 unfoldable pub rowsAdded : Format → List Float → List Float → ℕ → ℕ → ℕ → ℕ → ℕ → List Float → List Float
-rowsAdded f a p stride i j rows cols w = turns 1 rows (λ k. rowAdded f a (getD p k nan) ((i + k) * stride + j) cols) w
+rowsAdded f a p stride i j rows cols w = repeated 1 rows (λ k. rowAdded f a (getD p k nan) ((i + k) * stride + j) cols) w
 
 -- row i plus p[1] times row i + 1 plus .. plus p[rows - 1] times row i + rows - 1
 unfoldable pub columnSums : Format → List Float → ℕ → ℕ → ℕ → ℕ → ℕ → List Float → List Float
@@ -117,15 +117,15 @@ columnSums f p stride i j rows cols a = rowsAdded f a p stride i j rows cols (li
 
 -- the row at `off`, less w
 unfoldable pub rowLessAll : Format → List Float → ℕ → ℕ → List Float → List Float
-rowLessAll f w off n a = turns 0 n (λ l a. set a (off + l) (sub f (getD a (off + l) nan) (getD w l nan))) a
+rowLessAll f w off n a = repeated 0 n (λ l a. set a (off + l) (sub f (getD a (off + l) nan) (getD w l nan))) a
 
 -- the row at `off`, less x times w
 unfoldable pub rowLessTimes : Format → List Float → Float → ℕ → ℕ → List Float → List Float
-rowLessTimes f w x off n a = turns 0 n (λ l a. set a (off + l) (sub f (getD a (off + l) nan) (mul f x (getD w l nan)))) a
+rowLessTimes f w x off n a = repeated 0 n (λ l a. set a (off + l) (sub f (getD a (off + l) nan) (mul f x (getD w l nan)))) a
 
 -- row i + k less p[k] times w, for k from 1 to rows - 1
 unfoldable pub lowerLess : Format → List Float → List Float → ℕ → ℕ → ℕ → ℕ → ℕ → List Float → List Float
-lowerLess f p w stride i j rows cols a = turns 1 rows (λ k. rowLessTimes f w (getD p k nan) ((i + k) * stride + j) cols) a
+lowerLess f p w stride i j rows cols a = repeated 1 rows (λ k. rowLessTimes f w (getD p k nan) ((i + k) * stride + j) cols) a
 
 -- row i less w, and the rows below it less their shares
 unfoldable pub rowsLess : Format → List Float → List Float → ℕ → ℕ → ℕ → ℕ → ℕ → List Float → List Float
@@ -173,8 +173,8 @@ module _ (f : Format) (floor : Float) (at n : ℕ) (v : List Float) where
 -- ---- lengths stay
 
 -- a loop of stores into the list
-stored : (lo : ℕ) (at : ℕ → ℕ) (x : ℕ → List Float → Float) (n : ℕ) (a : List Float) → length (turns lo n (λ k a. set a (at k) (x k a)) a) ≡ length a
-stored lo at x n a = turns-keep lo _ (λ (l : List Float). length l ≡ length a) (λ k l e. simp length-set e) n a refl
+stored : (lo : ℕ) (at : ℕ → ℕ) (x : ℕ → List Float → Float) (n : ℕ) (a : List Float) → length (repeated lo n (λ k a. set a (at k) (x k a)) a) ≡ length a
+stored lo at x n a = repeated-keep lo _ (λ (l : List Float). length l ≡ length a) (λ k l e. simp length-set e) n a refl
 
 pub lineCleared-length : (at step n : ℕ) (a : List Float) → length (lineCleared at step n a) ≡ length a
 unfolding lineCleared
@@ -202,7 +202,7 @@ module _ (f : Format) where
 
   pub reflectedRight-length : (p : List Float) (tau : Float) (stride i j rows cols : ℕ) (a : List Float) → length (reflectedRight f p tau stride i j rows cols a) ≡ length a
   unfolding reflectedRight
-  reflectedRight-length p tau stride i j rows cols a = turns-keep 0 _ (λ (l : List Float). length l ≡ length a) (λ k l e. rowReflected-length p tau ((i + k) * stride + j) cols l ∙ e) rows a refl
+  reflectedRight-length p tau stride i j rows cols a = repeated-keep 0 _ (λ (l : List Float). length l ≡ length a) (λ k l e. rowReflected-length p tau ((i + k) * stride + j) cols l ∙ e) rows a refl
 
   pub rowLessAll-length : (w : List Float) (off n : ℕ) (a : List Float) → length (rowLessAll f w off n a) ≡ length a
   unfolding rowLessAll
@@ -215,7 +215,7 @@ module _ (f : Format) where
   pub reflectedLeft-length : (p : List Float) (tau : Float) (stride i j rows cols : ℕ) (a : List Float) → length (reflectedLeft f p tau stride i j rows cols a) ≡ length a
   unfolding reflectedLeft rowsLess lowerLess
   reflectedLeft-length p tau stride i j rows cols a =
-      turns-keep 1 _ (λ (l : List Float). length l ≡ length a)
+      repeated-keep 1 _ (λ (l : List Float). length l ≡ length a)
       (λ k l e. rowLessTimes-length _ (getD p k nan) ((i + k) * stride + j) cols l ∙ e)
       rows
       _

@@ -8,7 +8,7 @@ use Prim.Native.Nat.{ℕ, zero, suc, _+_, _-_, _<_, _≤_}
 use native.Mathlib.Omega.{arith}
 use lib.Dec.{eqb}
 use lib.Ieee.{Float, Format}
-use Rattle.method.specs.Turns.{turns, go}
+use Rattle.method.specs.Repeated.{repeated, go}
 use Rattle.method.specs.Work.{Work, Shape, at}
 use Rattle.method.specs.Rotation.{Rotation}
 use Rattle.method.specs.Bidiagonal.{columnZeroed, rowZeroed, firstZeroed, thenZeroed, placesZeroed, bidiagonal}
@@ -19,12 +19,12 @@ use Rattle.method.specs.Outcome.{card, isUpper, rulesOf, walkedFrom}
 use Rattle.method.specs.Settings.{Settings}
 
 -- what each turn from lo to hi - 1 of two loops keeps between them, the whole loops keep
-pub turns-both :
+pub repeated-both :
     {S S′ : Type 0} (R : S → S′ → Type 0) (lo hi : ℕ) (step : ℕ → S → S) (step′ : ℕ → S′ → S′) →
     ((k : ℕ) (s : S) (s′ : S′) → lo ≤ k → k < hi → R s s′ → R (step k s) (step′ k s′)) →
-    (s : S) (s′ : S′) → R s s′ → R (turns lo hi step s) (turns lo hi step′ s′)
-unfolding turns go
-turns-both R lo hi step step′ both s s′ r = walk (hi - lo) (omega arith)
+    (s : S) (s′ : S′) → R s s′ → R (repeated lo hi step s) (repeated lo hi step′ s′)
+unfolding repeated go
+repeated-both R lo hi step step′ both s s′ r = walk (hi - lo) (omega arith)
   where
     walk : (n : ℕ) → n ≤ hi - lo → R (go lo step n s) (go lo step′ n s′)
     walk zero h = r
@@ -59,7 +59,7 @@ module _ {f : Format} {floor : Float} {z z′ : Shape} {c : ℕ} {R : Work → W
   places-kept : (upper : Bool) (n : ℕ) (w w′ : Work) → n < c → R w w′ → R (placesZeroed f floor z upper n w) (placesZeroed f floor z′ upper n w′)
   unfolding placesZeroed
   places-kept upper n w w′ h r =
-      turns-both R 0 n _ _ (λ k s s′ l m e. then-kept upper k _ _ (omega arith) (first-kept upper k s s′ (omega arith) e)) w w′ r
+      repeated-both R 0 n _ _ (λ k s s′ l m e. then-kept upper k _ _ (omega arith) (first-kept upper k s s′ (omega arith) e)) w w′ r
 
   -- over a diagonal of d entries
   pub bidiagonal-kept : (upper : Bool) (d : ℕ) (w w′ : Work) → d - 1 < c → R w w′ → R (bidiagonal f floor z upper d w) (bidiagonal f floor z′ upper d w′)
@@ -94,7 +94,7 @@ module _ {f : Format} {floor : Float} {z z′ : Shape} {c : ℕ} {R : Work → W
   pub steps-kept : (upper : Bool) (n : ℕ) (w w′ : Work) → n + 1 < c → R w w′ → R (steps f z upper n w) (steps f z′ upper n w′)
   unfolding steps
   steps-kept upper n w w′ h r =
-      turns-both R 0 n (stepped f z upper) (stepped f z′ upper)
+      repeated-both R 0 n (stepped f z upper) (stepped f z′ upper)
       (λ l s s′ a b e.
       pushed-kept (not upper) (l + 1) l 3 _ _ (omega arith) (omega arith) (omega arith)
       (pushed-kept upper l l 3 s s′ (omega arith) (omega arith) (omega arith) e))

@@ -1,14 +1,14 @@
 -- Rotations (document 005): the rule that makes one of two numbers, and what it does to two rows or two columns of a table. Definitions, the
 -- rule's three cases one by one, and that lengths stay. Assumes nothing.
 use mathlib.Core.Path.{_≡_, refl, _∙_}
-use mathlib.Core.Bool.{Bool, true, false}
+use mathlib.Core.Bool.{true, false}
 use mathlib.Core.List.{List}
 use Prim.Native.Nat.{ℕ, _+_, _*_}
 use lib.ListN.{length, getD, set, length-set}
 use lib.Ieee.{Float, nan, Format, add, mul, div, neg, lt, eq}
 use Rattle.method.specs.Floats.{plusZero, one, magnitude}
 use Rattle.method.specs.Root.{squareRoot}
-use Rattle.method.specs.Turns.{turns, turns-keep}
+use Rattle.method.specs.Repeated.{repeated, repeated-keep}
 
 -- a rotation: where it takes the two numbers, and its cosine and sine
 pub record Rotation : Type 0 where
@@ -49,11 +49,11 @@ pairTurned f g p q a =
 
 -- rows i and i + 1 turned, in the n columns from j on: i counts lines, j the entries along a line
 unfoldable pub rowsTurned : Format → Rotation → ℕ → ℕ → ℕ → ℕ → List Float → List Float
-rowsTurned f g stride i j n a = turns 0 n (λ k. pairTurned f g (i * stride + (j + k)) ((i + 1) * stride + (j + k))) a
+rowsTurned f g stride i j n a = repeated 0 n (λ k. pairTurned f g (i * stride + (j + k)) ((i + 1) * stride + (j + k))) a
 
 -- columns i and i + 1 turned, in the n rows from j on: again i counts lines, so the entries are (j + k, i), row first
 unfoldable pub columnsTurned : Format → Rotation → ℕ → ℕ → ℕ → ℕ → List Float → List Float
-columnsTurned f g stride i j n a = turns 0 n (λ k. pairTurned f g ((j + k) * stride + i) ((j + k) * stride + (i + 1))) a
+columnsTurned f g stride i j n a = repeated 0 n (λ k. pairTurned f g ((j + k) * stride + i) ((j + k) * stride + (i + 1))) a
 
 -- ---- the rule's cases
 
@@ -92,9 +92,9 @@ module _ (f : Format) (g : Rotation) where
   pub rowsTurned-length : (stride i j n : ℕ) (a : List Float) → length (rowsTurned f g stride i j n a) ≡ length a
   unfolding rowsTurned
   rowsTurned-length stride i j n a =
-      turns-keep 0 _ (λ (l : List Float). length l ≡ length a) (λ k l e. pairTurned-length (i * stride + (j + k)) ((i + 1) * stride + (j + k)) l ∙ e) n a refl
+      repeated-keep 0 _ (λ (l : List Float). length l ≡ length a) (λ k l e. pairTurned-length (i * stride + (j + k)) ((i + 1) * stride + (j + k)) l ∙ e) n a refl
 
   pub columnsTurned-length : (stride i j n : ℕ) (a : List Float) → length (columnsTurned f g stride i j n a) ≡ length a
   unfolding columnsTurned
   columnsTurned-length stride i j n a =
-      turns-keep 0 _ (λ (l : List Float). length l ≡ length a) (λ k l e. pairTurned-length ((j + k) * stride + i) ((j + k) * stride + (i + 1)) l ∙ e) n a refl
+      repeated-keep 0 _ (λ (l : List Float). length l ≡ length a) (λ k l e. pairTurned-length ((j + k) * stride + i) ((j + k) * stride + (i + 1)) l ∙ e) n a refl

@@ -7,7 +7,7 @@ use Prim.Native.Nat.{ℕ, zero, suc, _+_, _*_, _^_}
 use lib.Dec.{ltb, eqb}
 use lib.ListN.{getD, set}
 use lib.Ieee.{Float, nan, inf, fin, Format, prec, emax, low, unlike, up, down, odd, units, round, neg, add, sub, mul}
-use Rattle.method.specs.Turns.{turns, turns-alike}
+use Rattle.method.specs.Repeated.{repeated, repeated-alike}
 use Rattle.method.specs.Rotation.{Rotation, pairTurned, columnsTurned}
 
 -- ---- the negative of a float
@@ -78,7 +78,7 @@ pairTurnedBack f g p q a =
 
 -- columns i and i + 1 so turned, in the n rows from j on
 unfoldable pub columnsTurnedBack : Format → Rotation → ℕ → ℕ → ℕ → ℕ → List Float → List Float
-columnsTurnedBack f g stride i j n a = turns 0 n (λ k. pairTurnedBack f g ((j + k) * stride + i) ((j + k) * stride + (i + 1))) a
+columnsTurnedBack f g stride i j n a = repeated 0 n (λ k. pairTurnedBack f g ((j + k) * stride + i) ((j + k) * stride + (i + 1))) a
 
 -- two entries so turned are turned as Rotation has it
 pub pairTurned-back : (f : Format) (g : Rotation) (p q : ℕ) (a : List Float) → pairTurnedBack f g p q a ≡ pairTurned f g p q a
@@ -89,7 +89,7 @@ pairTurned-back f g p q a = rw (mul-neg-left f (g .sine) (getD a q nan), sub-neg
 pub columnsTurned-back : (f : Format) (g : Rotation) (stride i j n : ℕ) (a : List Float) → columnsTurnedBack f g stride i j n a ≡ columnsTurned f g stride i j n a
 unfolding columnsTurnedBack columnsTurned
 columnsTurned-back f g stride i j n a =
-    turns-alike (λ (l l′ : List Float). l ≡ l′) 0 _ _
+    repeated-alike (λ (l l′ : List Float). l ≡ l′) 0 _ _
     (λ k l l′ e. pairTurned-back f g ((j + k) * stride + i) ((j + k) * stride + (i + 1)) l ∙ ap (pairTurned f g ((j + k) * stride + i) ((j + k) * stride + (i + 1))) e)
     n
     a

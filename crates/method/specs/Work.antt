@@ -31,3 +31,7 @@ packed kept rows cols = record { rows = rows; cols = cols; stride = cols; urows 
 -- entry (i, j) of a table
 abbrev pub at : ℕ → ℕ → ℕ → List Float → Float
 at stride i j a = getD a (i * stride + j) nan
+
+-- where the coupling of the 2 x 2 whose top left is entry (k, k) stands in the list: right of (k, k) in the upper form, below it in the lower
+abbrev pub couplingPlace : Bool → ℕ → ℕ → ℕ
+couplingPlace upper stride k = pick upper (k * stride + (k + 1)) ((k + 1) * stride + k)

@@ -1,6 +1,5 @@
 // Lines written into the text that is printed. Each function writes from `at` on and answers where its
 // bytes end; past the end of out where they have no room.
-ghost use mathlib.Core.Path.{_≡_};
 ghost use mathlib.Core.List.{[], _∷_};
 ghost use Prim.Native.Nat.{_+_, _*_, _<_, _≤_};
 ghost use lib.ListN.{length, take, drop};

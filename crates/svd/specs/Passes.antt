@@ -5,7 +5,7 @@ use Prim.Native.Nat.{ℕ, _+_, _-_, _*_, _≤_, _<_, zero-le}
 use native.Mathlib.Nat.{le-trans, mul-le-mul-right}
 use native.Mathlib.Omega.{arith}
 use lib.Ieee.{binary64}
-use Rattle.method.specs.Work.{Work, Shape as Sizes}
+use Rattle.method.specs.Work.{Work, Shape as Sizes, couplingPlace}
 use Rattle.method.specs.Lengths.{SameLengths, onward, swept-lengths}
 use Rattle.method.specs.Chase.{negligible, swept}
 use Rattle.method.specs.Walk as Walk
@@ -13,7 +13,7 @@ use Rattle.method.specs.Walk.{State, stands, begun, run, afterDrop, afterSweep}
 use Rattle.method.specs.Walk.Counts.{walked-same, enough-most}
 use Rattle.method.specs.Walk.Run.{Going, narrow, spent}
 use Rattle.method.specs.Walk.Loop.{Room, Made, made-none, made-drop, made-sweep, made-moved, made-room, made-all, made-end}
-use Rattle.method.specs.Positions.{Corner, Placed, couplingPlace, cornerOf, cornerDropped, start-placed, dropped-placed}
+use Rattle.method.specs.Positions.{Corner, Placed, cornerOf, cornerDropped, start-placed, dropped-placed}
 use Rattle.method.specs.Outcome.{rulesOf, card, isUpper, walkedFrom}
 use Rattle.method.specs.Settings.{Settings, mostSize, mostLimit, mostCredit, mostPasses}
 use Rattle.method.specs.Bidiagonal.{bidiagonal}

@@ -1,7 +1,7 @@
 // Rotations (francis/givens.rs): the rule that makes one, and what it does to two rows or two
 // columns of a row-major table.
 ghost use mathlib.Core.Path.{_≡_};
-ghost use Prim.Native.Nat.{_+_, _*_, _≤_, _<_};
+ghost use Prim.Native.Nat.{_+_, _*_, _<_};
 ghost use lib.ListN.{length};
 ghost use lib.Ieee.{binary64};
 ghost use Rattle.method.specs.Rotation.{rotationOf, pairTurned, rowsTurned, columnsTurned};

@@ -14,7 +14,6 @@ use svd::interface::svd_decomposition;
 use svd::report::Report;
 use svd::report::Word;
 ghost use mathlib.Core.Path.{_≡_};
-ghost use Prim.Native.Nat.{_≤_};
 ghost use lib.ListN.{length};
 
 // What a run came to: whether all is as stored, and what the library answered.

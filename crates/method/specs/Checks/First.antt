@@ -7,8 +7,8 @@ use mathlib.Core.List.{List, [], _∷_, _++_}
 use Prim.Native.Nat.{ℕ, _<_}
 use native.Mathlib.Omega.{arith}
 use lib.Dec.{ltb, eqb}
-use borrow.Author.Tests.{eqb-true, eqb-false, eq-eqb, ne-eqb}
-use Rattle.method.specs.Checks.{Check, check, placed, Refusal, refusal, firstOf}
+use borrow.Author.Tests.{eq-eqb, ne-eqb}
+use Rattle.method.specs.Checks.{Check, placed, Refusal, refusal, firstOf}
 use Rattle.method.specs.Checks.Tests.{Says, denies, less, same, nor, both, holds}
 
 -- where the first check fails, it is the refusal

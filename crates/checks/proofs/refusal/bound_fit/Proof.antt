@@ -1,6 +1,6 @@
 -- By whether x is finite. Assumes nothing.
 use borrow.Author.Needs.{needs}
-use mathlib.Core.Path.{_≡_, refl, ap, _∙_}
+use mathlib.Core.Path.{refl}
 use Rattle.method.specs.Floats.{plusZero-64}
 use Rattle.checks.proofs.refusal.bound_fit.Statement.{statement}
 use Rattle.checks.proofs.refusal.bound_fit.Tie as tie

@@ -1,7 +1,6 @@
 -- By one bound after another. Assumes nothing.
 use borrow.Author.Needs.{needs}
-use mathlib.Core.Path.{_≡_, refl, ap, _∙_}
-use mathlib.Core.Logic.{⊎-elim}
+use mathlib.Core.Path.{refl}
 use Rattle.checks.proofs.refusal.bounds_unfit.Statement.{statement}
 use Rattle.checks.proofs.refusal.bounds_unfit.Tie as tie
 

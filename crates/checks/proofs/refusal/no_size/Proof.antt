@@ -1,6 +1,5 @@
 -- By the first test. Assumes nothing.
-use borrow.Author.Needs.{needs}
-use mathlib.Core.Path.{_≡_, refl, ap, _∙_}
+use mathlib.Core.Path.{refl}
 use borrow.Author.Tests.{eq-eqb, ne-eqb}
 use Rattle.checks.proofs.refusal.no_size.Statement.{statement}
 use Rattle.checks.proofs.refusal.no_size.Tie as tie

@@ -1,6 +1,5 @@
 -- By the first test. Assumes nothing.
-use borrow.Author.Needs.{needs}
-use mathlib.Core.Path.{_≡_, refl, ap, _∙_}
+use mathlib.Core.Path.{refl}
 use borrow.Author.Tests.{lt-ltb, le-ltb}
 use Rattle.checks.proofs.refusal.too_large.Statement.{statement}
 use Rattle.checks.proofs.refusal.too_large.Tie as tie

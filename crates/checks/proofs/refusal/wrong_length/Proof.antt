@@ -1,6 +1,5 @@
 -- By whether the list is kept. Assumes nothing.
-use borrow.Author.Needs.{needs}
-use mathlib.Core.Path.{_≡_, refl, ap, _∙_}
+use mathlib.Core.Path.{refl}
 use Rattle.checks.proofs.refusal.wrong_length.Statement.{statement}
 use Rattle.checks.proofs.refusal.wrong_length.Tie as tie
 

@@ -1,6 +1,4 @@
 -- Between the two infinities. Assumes nothing.
-use borrow.Author.Needs.{needs}
-use mathlib.Core.Path.{_≡_, refl, ap, _∙_}
 use lib.Ieee.{binary64}
 use Rattle.method.specs.Floats.{plusZero-64, one-64}
 use Rattle.method.specs.Finite.{finite-test}

@@ -1,7 +1,5 @@
 -- One check after another, then the zeros and the ones. Assumes nothing.
 use borrow.Author.Needs.{needs}
-use Prim.Native.Nat.{_+_, _-_, _*_, _<_, _≤_, zero-le}
-use mathlib.Core.Path.{sym, _∙_}
 use native.Mathlib.Omega.{arith}
 use Rattle.method.specs.Index.{few}
 use Rattle.method.specs.Fill.Numbers.{fill-one, fill-two, fill-four}

@@ -1,11 +1,11 @@
 -- After i turns the first i of the diagonal are 1. Assumes nothing.
 use borrow.Author.Needs.{needs}
-use Prim.Native.Nat.{_+_, _-_, _*_, _<_, _≤_, zero-le}
+use Prim.Native.Nat.{_+_, _-_, _*_, _≤_}
 use mathlib.Core.Path.{_≡_, refl, ap, _∙_}
 use native.Mathlib.Omega.{arith}
 use native.Mathlib.Nat.{le-antisymm}
 use lib.ListN.{length, length-set, length-replicate, set}
-use Rattle.method.specs.Turns.{turns, turns-none, turns-next}
+use Rattle.method.specs.Repeated.{repeated, repeated-none, repeated-next}
 use Rattle.method.specs.Fill.{identity}
 use Rattle.method.specs.Floats.{one, one-64, plusZero}
 use Rattle.method.specs.Index.{row-in, few}
@@ -13,13 +13,13 @@ use Rattle.factors.proofs.identity.ones.Statement.{statement}
 use Rattle.factors.proofs.identity.ones.Tie as tie
 
 abbrev Inv-loop : tie.InvT-loop
-Inv-loop a₀ n i₀ a i = (i ≤ n) × (length a ≡ length a₀) × (a ≡ turns 0 i (λ k l. set l (k * n + k) one) a₀)
+Inv-loop a₀ n i₀ a i = (i ≤ n) × (length a ≡ length a₀) × (a ≡ repeated 0 i (λ k l. set l (k * n + k) one) a₀)
 
 abbrev μ-loop : tie.MeasureT-loop
 μ-loop a₀ n i₀ a i = n - i
 
 loop-holds : tie.Need-loop-holds Inv-loop μ-loop
-loop-holds c = (omega arith, refl, turns-none 0 _ _)
+loop-holds c = (omega arith, refl, repeated-none 0 _ _)
 
 mul-at : tie.Need-mul-at Inv-loop μ-loop
 mul-at c =
@@ -42,7 +42,7 @@ slice-write-a c =
     omega (arith, row-in (c .before .loop .i) (st .args .n) (st .args .n) (omega arith), few (st .args .n) (st .args .n) (omega arith) (omega arith), ap length (st .pre .1) ∙ length-replicate (st .args .n * st .args .n) plusZero)
 
 loop-again : tie.Need-loop-again Inv-loop μ-loop
-loop-again c = (omega arith, simp length-set (omega arith), rw (turns-next, one-64) (cc))
+loop-again c = (omega arith, simp length-set (omega arith), rw (repeated-next, one-64) (cc))
 
 returns : tie.Need-returns Inv-loop μ-loop
 unfolding identity

@@ -1,6 +1,4 @@
 -- One test after another. Assumes nothing.
-use borrow.Author.Needs.{needs}
-use Prim.Native.Nat.{_+_, _-_, _*_, _<_, _≤_, zero-le}
 use native.Mathlib.Omega.{arith}
 use Rattle.method.specs.Index.{few}
 use Rattle.factors.specs.Fill.{not-fit, fit-u, fit-v}

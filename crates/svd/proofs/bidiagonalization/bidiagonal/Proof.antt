@@ -1,6 +1,6 @@
 -- `bidiagonal` meets its contract: by whether the table is square. Assumes nothing.
 use borrow.Author.Needs.{needs}
-use mathlib.Core.Path.{_≡_, refl, ap, _∙_}
+use mathlib.Core.Path.{_∙_}
 use Rattle.method.specs.Bidiagonal.{bidiagonal-square, bidiagonal-other}
 use Rattle.svd.proofs.bidiagonalization.bidiagonal.Statement.{statement}
 use Rattle.svd.proofs.bidiagonalization.bidiagonal.Tie as tie

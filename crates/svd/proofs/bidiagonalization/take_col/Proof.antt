@@ -1,9 +1,7 @@
 -- `take_col` meets its contract: the copy, the clearing, the reflection and the head, one after the other. Assumes nothing.
 use borrow.Author.Needs.{needs}
-use Prim.Native.Nat.{_+_, _-_, _*_, _<_, _≤_, zero-le}
-use mathlib.Core.Path.{_≡_, refl, ap, _∙_}
+use mathlib.Core.Path.{refl}
 use native.Mathlib.Omega.{arith}
-use lib.ListN.{length, length-set}
 use Rattle.method.specs.Index.{row-below, rows-left}
 use Rattle.method.specs.Floats.{plusZero-64}
 use Rattle.svd.proofs.bidiagonalization.take_col.Statement.{statement}

@@ -1,10 +1,8 @@
 -- `zero_col` meets its contract: where tau is not 0 the columns right of it and U take the reflection. Assumes nothing.
 use borrow.Author.Needs.{needs}
-use Prim.Native.Nat.{_+_, _-_, _*_, _<_, _≤_, zero-le}
-use mathlib.Core.Path.{_≡_, refl, ap, _∙_}
+use mathlib.Core.Path.{refl, _∙_}
 use native.Mathlib.Omega.{arith}
-use lib.ListN.{length, length-set}
-use Rattle.method.specs.Index.{row-below, rows-left}
+use Rattle.method.specs.Index.{rows-left}
 use Rattle.method.specs.Floats.{plusZero-64}
 use Rattle.method.specs.Bidiagonal.{column-still, column-moved, factor-still, factor-moved}
 use Rattle.svd.proofs.bidiagonalization.zero_col.Statement.{statement}

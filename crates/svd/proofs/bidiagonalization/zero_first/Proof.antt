@@ -1,6 +1,6 @@
 -- `zero_first` meets its contract: the upper form clears a column, the lower a row. Assumes nothing.
 use borrow.Author.Needs.{needs}
-use mathlib.Core.Path.{_≡_, refl, ap, _∙_}
+use mathlib.Core.Path.{refl}
 use Rattle.method.specs.Bidiagonal.{columnZeroed, rowZeroed}
 use Rattle.svd.proofs.bidiagonalization.zero_first.Statement.{statement}
 use Rattle.svd.proofs.bidiagonalization.zero_first.Tie as tie

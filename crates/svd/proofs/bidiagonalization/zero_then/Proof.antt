@@ -1,6 +1,6 @@
 -- `zero_then` meets its contract: the upper form clears a row, the lower a column. Assumes nothing.
 use borrow.Author.Needs.{needs}
-use mathlib.Core.Path.{_≡_, refl, ap, _∙_}
+use mathlib.Core.Path.{refl}
 use Rattle.method.specs.Bidiagonal.{columnZeroed, rowZeroed}
 use Rattle.svd.proofs.bidiagonalization.zero_then.Statement.{statement}
 use Rattle.svd.proofs.bidiagonalization.zero_then.Tie as tie

@@ -1,6 +1,6 @@
 -- `along` meets its contract: by whether the line is a row. Assumes nothing.
 use borrow.Author.Needs.{needs}
-use mathlib.Core.Path.{_≡_, refl, ap, _∙_}
+use mathlib.Core.Path.{refl}
 use Rattle.svd.proofs.bulge_chasing.along.Statement.{statement}
 use Rattle.svd.proofs.bulge_chasing.along.Tie as tie
 

@@ -1,7 +1,6 @@
 -- `decomp_givens` meets its contract: after `made` turns as many passes have been made, as the definition makes them. Assumes nothing.
 use borrow.Author.Needs.{needs}
-use Prim.Native.Nat.{_+_, _-_, _*_, _<_, _≤_, zero-le}
-use native.Mathlib.Omega.{arith}
+use Prim.Native.Nat.{_-_}
 use mathlib.Core.Path.{sym, _∙_}
 use borrow.Author.Tests.{ltb-true, ltb-false}
 use Rattle.method.specs.Work.{work}

@@ -1,6 +1,6 @@
 -- `is_negligible` meets its contract: the places are those of the corner. Assumes nothing.
 use borrow.Author.Needs.{needs}
-use Prim.Native.Nat.{_+_, _-_, _*_, _<_, _≤_, zero-le}
+use Prim.Native.Nat.{_+_}
 use native.Mathlib.Omega.{arith}
 use lib.Ieee.{binary64}
 use Rattle.method.specs.Chase.{negligible-is}

@@ -1,7 +1,7 @@
 -- `push` meets its contract: the rotation of the two entries, and then the turn. Assumes nothing.
 use borrow.Author.Needs.{needs}
-use mathlib.Core.Path.{_≡_, refl, ap, _∙_}
-use Prim.Native.Nat.{_+_, _-_, _*_, _<_, _≤_, zero-le}
+use mathlib.Core.Path.{refl}
+use Prim.Native.Nat.{_+_}
 use native.Mathlib.Omega.{arith}
 use Rattle.method.specs.Index.{row-in}
 use Rattle.svd.proofs.bulge_chasing.push.Statement.{statement}

@@ -1,6 +1,6 @@
 -- `turn` meets its contract: by whether the lines are rows, which U follows, or columns, which V follows. Assumes nothing.
 use borrow.Author.Needs.{needs}
-use mathlib.Core.Path.{_≡_, refl, ap, _∙_}
+use mathlib.Core.Path.{refl}
 use native.Mathlib.Omega.{arith}
 use native.Mathlib.Nat.{mul-le-mul-right}
 use Rattle.method.specs.Chase.{turned}

@@ -1,14 +1,14 @@
 -- `apply_g_left` meets its contract: after k turns a is `rowsTurned` in k columns. Assumes nothing.
 use borrow.Author.Needs.{needs}
-use Prim.Native.Nat.{_+_, _-_, _*_, _<_, _≤_, zero-le}
-use mathlib.Core.Path.{_≡_, refl, ap, _∙_}
+use Prim.Native.Nat.{_+_, _-_, _≤_, zero-le}
+use mathlib.Core.Path.{_≡_, refl}
 use native.Mathlib.Omega.{arith}
 use native.Mathlib.Nat.{le-antisymm}
-use lib.ListN.{length, length-set}
+use lib.ListN.{length}
 use lib.Ieee.{binary64}
 use Rattle.method.specs.Index.{row-next}
 use Rattle.svd.specs.Values.{rotation}
-use Rattle.method.specs.Turns.{turns-none, turns-more}
+use Rattle.method.specs.Repeated.{repeated-none, repeated-more}
 use Rattle.method.specs.Rotation.{rowsTurned}
 use Rattle.svd.proofs.givens.apply_g_left.Statement.{statement}
 use Rattle.svd.proofs.givens.apply_g_left.Tie as tie
@@ -30,7 +30,7 @@ mul-lower c = record { fits = omega (arith, row-next (c .before .args .i) (c .be
 
 loop-holds : tie.Need-loop-holds Inv-loop μ-loop
 unfolding rowsTurned
-loop-holds c = (omega arith, refl, turns-none 0 _ _)
+loop-holds c = (omega arith, refl, repeated-none 0 _ _)
 
 add-turn-pair : tie.Need-add-turn-pair Inv-loop μ-loop
 add-turn-pair c =
@@ -59,7 +59,7 @@ turn-pair-requires c κs =
 
 loop-again : tie.Need-loop-again Inv-loop μ-loop
 unfolding rowsTurned
-loop-again c = (omega arith, omega arith, rw (c .before .before .turn-pair .ensures) (turns-more 0 _ _ _ _ zero-le (c .before .before .before .before .before .loop .inv .2)))
+loop-again c = (omega arith, omega arith, rw (c .before .before .turn-pair .ensures) (repeated-more 0 _ _ _ _ zero-le (c .before .before .before .before .before .loop .inv .2)))
 
 returns : tie.Need-returns Inv-loop μ-loop
 returns c = rw (le-antisymm (c .before .loop .inv .0) (c .loop-test .left)) at (c .before .loop .inv .2)

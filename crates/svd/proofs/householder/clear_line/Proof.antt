@@ -1,12 +1,12 @@
 -- `clear_line` meets its contract: after k turns a is `lineCleared` of k entries. Assumes nothing.
 use borrow.Author.Needs.{needs}
-use Prim.Native.Nat.{_+_, _-_, _*_, _<_, _≤_, zero-le}
-use mathlib.Core.Path.{_≡_, refl, ap, _∙_}
+use Prim.Native.Nat.{_-_, _≤_, zero-le}
+use mathlib.Core.Path.{_≡_, refl}
 use native.Mathlib.Omega.{arith}
 use native.Mathlib.Nat.{le-antisymm}
 use lib.ListN.{length, length-set}
 use Rattle.method.specs.Index.{row-below}
-use Rattle.method.specs.Turns.{turns-none, turns-more}
+use Rattle.method.specs.Repeated.{repeated-none, repeated-more}
 use Rattle.method.specs.Reflection.{lineCleared}
 use Rattle.method.specs.Floats.{plusZero-64}
 use Rattle.svd.proofs.householder.clear_line.Statement.{statement}
@@ -20,7 +20,7 @@ abbrev μ-loop : tie.MeasureT-loop
 
 loop-holds : tie.Need-loop-holds Inv-loop μ-loop
 unfolding lineCleared
-loop-holds c = (omega arith, refl, turns-none 0 _ _)
+loop-holds c = (omega arith, refl, repeated-none 0 _ _)
 
 mul-i : tie.Need-mul-i Inv-loop μ-loop
 mul-i c = record { fits = omega (arith, row-below (c .before .before .args .step) (c .loop-test .taken)) }
@@ -36,7 +36,7 @@ slice-write-a c = omega (arith, row-below (c .before .before .args .step) (c .lo
 
 loop-again : tie.Need-loop-again Inv-loop μ-loop
 unfolding lineCleared
-loop-again c = (omega arith, simp length-set (omega arith), rw (plusZero-64) (turns-more 0 _ _ _ _ zero-le (c .before .loop .inv .2)))
+loop-again c = (omega arith, simp length-set (omega arith), rw (plusZero-64) (repeated-more 0 _ _ _ _ zero-le (c .before .loop .inv .2)))
 
 returns : tie.Need-returns Inv-loop μ-loop
 returns c = rw (le-antisymm (c .before .loop .inv .0) (c .loop-test .left)) at (c .before .loop .inv .2)

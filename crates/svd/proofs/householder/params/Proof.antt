@@ -1,9 +1,8 @@
 -- `params` meets its contract: by the two cases of `reflectionOf`, below the floor and not. Assumes nothing.
 use borrow.Author.Needs.{needs}
-use mathlib.Core.Path.{_≡_, refl, ap, _∙_}
 use native.Mathlib.Omega.{arith}
-use lib.ListN.{length, length-set}
-use Rattle.method.specs.Reflection.{reflectionOf, blank-length, reflection-small, reflection-large}
+use lib.ListN.{length-set}
+use Rattle.method.specs.Reflection.{blank-length, reflection-small, reflection-large}
 use Rattle.method.specs.Floats.{plusZero-64, one-64}
 use Rattle.svd.proofs.householder.params.Statement.{statement}
 use Rattle.svd.proofs.householder.params.Tie as tie

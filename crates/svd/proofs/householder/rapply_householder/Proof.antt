@@ -1,13 +1,13 @@
 -- `rapply_householder` meets its contract: after k turns a is `reflectedRight` of k rows. Assumes nothing.
 use borrow.Author.Needs.{needs}
-use Prim.Native.Nat.{_+_, _-_, _*_, _<_, _≤_, zero-le}
-use mathlib.Core.Path.{_≡_, refl, ap, _∙_}
+use Prim.Native.Nat.{_-_, _≤_, zero-le}
+use mathlib.Core.Path.{_≡_, refl}
 use native.Mathlib.Omega.{arith}
 use native.Mathlib.Nat.{le-antisymm}
-use lib.ListN.{length, length-set}
+use lib.ListN.{length}
 use lib.Ieee.{binary64}
 use Rattle.method.specs.Index.{row-fits}
-use Rattle.method.specs.Turns.{turns-none, turns-more}
+use Rattle.method.specs.Repeated.{repeated-none, repeated-more}
 use Rattle.method.specs.Reflection.{reflectedRight}
 use Rattle.svd.proofs.householder.rapply_householder.Statement.{statement}
 use Rattle.svd.proofs.householder.rapply_householder.Tie as tie
@@ -20,7 +20,7 @@ abbrev μ-loop : tie.MeasureT-loop
 
 loop-holds : tie.Need-loop-holds Inv-loop μ-loop
 unfolding reflectedRight
-loop-holds c = (omega arith, refl, turns-none 0 _ _)
+loop-holds c = (omega arith, refl, repeated-none 0 _ _)
 
 add-off : tie.Need-add-off Inv-loop μ-loop
 add-off c = let at-start = c .before .before .before .before in omega (arith, row-fits (at-start .args .i) (at-start .args .stride) (c .loop-test .taken))
@@ -40,7 +40,7 @@ reflect-row-requires c κs =
 
 loop-again : tie.Need-loop-again Inv-loop μ-loop
 unfolding reflectedRight
-loop-again c = (omega arith, omega arith, rw (c .before .before .reflect-row .ensures) (turns-more 0 _ _ _ _ zero-le (c .before .before .before .before .before .loop .inv .2)))
+loop-again c = (omega arith, omega arith, rw (c .before .before .reflect-row .ensures) (repeated-more 0 _ _ _ _ zero-le (c .before .before .before .before .before .loop .inv .2)))
 
 returns : tie.Need-returns Inv-loop μ-loop
 returns c = rw (le-antisymm (c .before .loop .inv .0) (c .loop-test .left)) at (c .before .loop .inv .2)

@@ -1,12 +1,12 @@
 -- `row_less` meets its contract: after the turns up to k, a is `tailLess` of k entries, of the row whose head is done. Assumes nothing.
 use borrow.Author.Needs.{needs}
-use Prim.Native.Nat.{_+_, _-_, _*_, _<_, _≤_, zero-le}
-use mathlib.Core.Path.{_≡_, refl, ap, _∙_}
+use Prim.Native.Nat.{_+_, _-_, _≤_}
+use mathlib.Core.Path.{_≡_, refl}
 use native.Mathlib.Omega.{arith}
 use native.Mathlib.Nat.{le-antisymm}
 use lib.ListN.{length, length-set}
 use lib.Ieee.{binary64}
-use Rattle.method.specs.Turns.{turns-none, turns-more}
+use Rattle.method.specs.Repeated.{repeated-none, repeated-more}
 use Rattle.method.specs.Reflection.{rowLess, tailLess}
 use Rattle.svd.proofs.householder.row_less.Statement.{statement}
 use Rattle.svd.proofs.householder.row_less.Tie as tie
@@ -19,11 +19,11 @@ abbrev μ-loop : tie.MeasureT-loop
 
 loop-holds : tie.Need-loop-holds Inv-loop μ-loop
 unfolding tailLess
-loop-holds c = (omega arith, omega arith, simp length-set (omega arith), refl, turns-none 1 _ _)
+loop-holds c = (omega arith, omega arith, simp length-set (omega arith), refl, repeated-none 1 _ _)
 
 loop-again : tie.Need-loop-again Inv-loop μ-loop
 unfolding tailLess
-loop-again c = (omega arith, omega arith, simp length-set (omega arith), simp length-set (simp length-set at (c .before .before .before .loop .inv .3)), turns-more 1 _ _ _ _ (c .before .before .before .loop .inv .0) (c .before .before .before .loop .inv .4))
+loop-again c = (omega arith, omega arith, simp length-set (omega arith), simp length-set (simp length-set at (c .before .before .before .loop .inv .3)), repeated-more 1 _ _ _ _ (c .before .before .before .loop .inv .0) (c .before .before .before .loop .inv .4))
 
 same-length : tie.Need-same-length Inv-loop μ-loop
 same-length c = simp length-set at (c .before .loop .inv .3)

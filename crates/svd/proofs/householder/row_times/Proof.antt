@@ -1,11 +1,11 @@
 -- `row_times` meets its contract: after the turns up to k, the sum is `rowTimes` of k entries. Assumes nothing.
 use borrow.Author.Needs.{needs}
-use Prim.Native.Nat.{_+_, _-_, _*_, _<_, _≤_, zero-le}
-use mathlib.Core.Path.{_≡_, refl, ap, _∙_}
+use Prim.Native.Nat.{_-_, _≤_}
+use mathlib.Core.Path.{_≡_}
 use native.Mathlib.Omega.{arith}
 use native.Mathlib.Nat.{le-antisymm}
 use lib.Ieee.{binary64}
-use Rattle.method.specs.Turns.{turns-none, turns-more}
+use Rattle.method.specs.Repeated.{repeated-none, repeated-more}
 use Rattle.method.specs.Reflection.{rowTimes}
 use Rattle.svd.proofs.householder.row_times.Statement.{statement}
 use Rattle.svd.proofs.householder.row_times.Tie as tie
@@ -18,11 +18,11 @@ abbrev μ-loop : tie.MeasureT-loop
 
 loop-holds : tie.Need-loop-holds Inv-loop μ-loop
 unfolding rowTimes
-loop-holds c = (omega arith, omega arith, turns-none 1 _ _)
+loop-holds c = (omega arith, omega arith, repeated-none 1 _ _)
 
 loop-again : tie.Need-loop-again Inv-loop μ-loop
 unfolding rowTimes
-loop-again c = (omega arith, omega arith, turns-more 1 _ _ _ _ (c .before .before .before .loop .inv .0) (c .before .before .before .loop .inv .2))
+loop-again c = (omega arith, omega arith, repeated-more 1 _ _ _ _ (c .before .before .before .loop .inv .0) (c .before .before .before .loop .inv .2))
 
 returns : tie.Need-returns Inv-loop μ-loop
 returns c = rw (le-antisymm (c .before .loop .inv .1) (c .loop-test .left)) at (c .before .loop .inv .2)

@@ -1,13 +1,13 @@
 -- `rows_less` meets its contract: after the turns up to k, a is `lowerLess` of k rows, once the first is done. Assumes nothing.
 use borrow.Author.Needs.{needs}
-use Prim.Native.Nat.{_+_, _-_, _*_, _<_, _≤_, zero-le}
-use mathlib.Core.Path.{_≡_, refl, ap, _∙_}
+use Prim.Native.Nat.{_-_, _≤_}
+use mathlib.Core.Path.{_≡_, refl}
 use native.Mathlib.Omega.{arith}
 use native.Mathlib.Nat.{le-antisymm}
-use lib.ListN.{length, length-set}
+use lib.ListN.{length}
 use lib.Ieee.{binary64}
 use Rattle.method.specs.Index.{row-fits}
-use Rattle.method.specs.Turns.{turns-none, turns-more}
+use Rattle.method.specs.Repeated.{repeated-none, repeated-more}
 use Rattle.method.specs.Reflection.{lowerLess, rowsLess}
 use Rattle.svd.proofs.householder.rows_less.Statement.{statement}
 use Rattle.svd.proofs.householder.rows_less.Tie as tie
@@ -33,7 +33,7 @@ row-less-all-requires c κs =
 
 loop-holds : tie.Need-loop-holds Inv-loop μ-loop
 unfolding lowerLess
-loop-holds c = (omega arith, omega arith, refl, turns-none 1 _ _)
+loop-holds c = (omega arith, omega arith, refl, repeated-none 1 _ _)
 
 add-off : tie.Need-add-off Inv-loop μ-loop
 add-off c =
@@ -59,7 +59,7 @@ loop-again : tie.Need-loop-again Inv-loop μ-loop
 unfolding lowerLess
 loop-again c =
     let at-loop = c .before .before .before .before .before .before in
-    (omega arith, omega arith, omega arith, rw (c .before .before .row-less-times .ensures) (turns-more 1 _ _ _ _ (at-loop .loop .inv .0) (at-loop .loop .inv .3)))
+    (omega arith, omega arith, omega arith, rw (c .before .before .row-less-times .ensures) (repeated-more 1 _ _ _ _ (at-loop .loop .inv .0) (at-loop .loop .inv .3)))
 
 returns : tie.Need-returns Inv-loop μ-loop
 unfolding rowsLess

@@ -1,12 +1,12 @@
 -- `scale_into` meets its contract: after k turns w is `scaled` of k entries. Assumes nothing.
 use borrow.Author.Needs.{needs}
-use Prim.Native.Nat.{_+_, _-_, _*_, _<_, _≤_, zero-le}
-use mathlib.Core.Path.{_≡_, refl, ap, _∙_}
+use Prim.Native.Nat.{_-_, _≤_, zero-le}
+use mathlib.Core.Path.{_≡_, ap, _∙_}
 use native.Mathlib.Omega.{arith}
 use native.Mathlib.Nat.{le-antisymm}
 use lib.ListN.{length, length-set}
 use lib.Ieee.{binary64}
-use Rattle.method.specs.Turns.{turns-none, turns-more}
+use Rattle.method.specs.Repeated.{repeated-none, repeated-more}
 use Rattle.method.specs.Reflection.{scaled}
 use Rattle.svd.proofs.householder.scale_into.Statement.{statement}
 use Rattle.svd.proofs.householder.scale_into.Tie as tie
@@ -19,11 +19,11 @@ abbrev μ-loop : tie.MeasureT-loop
 
 loop-holds : tie.Need-loop-holds Inv-loop μ-loop
 unfolding scaled
-loop-holds c = (omega arith, ap length (c .pre .2), c .pre .2 ∙ turns-none 0 _ _)
+loop-holds c = (omega arith, ap length (c .pre .2), c .pre .2 ∙ repeated-none 0 _ _)
 
 loop-again : tie.Need-loop-again Inv-loop μ-loop
 unfolding scaled
-loop-again c = (omega arith, simp length-set (omega arith), turns-more 0 _ _ _ _ zero-le (c .before .before .loop .inv .2))
+loop-again c = (omega arith, simp length-set (omega arith), repeated-more 0 _ _ _ _ zero-le (c .before .before .loop .inv .2))
 
 returns : tie.Need-returns Inv-loop μ-loop
 returns c = rw (le-antisymm (c .before .loop .inv .0) (c .loop-test .left)) at (c .before .loop .inv .2)

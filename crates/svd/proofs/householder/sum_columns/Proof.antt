@@ -1,13 +1,13 @@
 -- `sum_columns` meets its contract: after the turns up to k, w is `rowsAdded` of k rows, from the copy of the first. Assumes nothing.
 use borrow.Author.Needs.{needs}
-use Prim.Native.Nat.{_+_, _-_, _*_, _<_, _≤_, zero-le}
-use mathlib.Core.Path.{_≡_, refl, ap, _∙_}
+use Prim.Native.Nat.{_-_, _≤_}
+use mathlib.Core.Path.{_≡_}
 use native.Mathlib.Omega.{arith}
 use native.Mathlib.Nat.{le-antisymm}
-use lib.ListN.{length, length-set}
+use lib.ListN.{length}
 use lib.Ieee.{binary64}
 use Rattle.method.specs.Index.{row-fits}
-use Rattle.method.specs.Turns.{turns-none, turns-more}
+use Rattle.method.specs.Repeated.{repeated-none, repeated-more}
 use Rattle.method.specs.Reflection.{blank-length, rowsAdded, columnSums}
 use Rattle.svd.proofs.householder.sum_columns.Statement.{statement}
 use Rattle.svd.proofs.householder.sum_columns.Tie as tie
@@ -31,7 +31,7 @@ copy-line-requires c κs =
 
 loop-holds : tie.Need-loop-holds Inv-loop μ-loop
 unfolding rowsAdded
-loop-holds c = (omega arith, omega arith, omega (arith, blank-length _ (c .before .before .before .before .before .before .before .pre .4)), turns-none 1 _ _)
+loop-holds c = (omega arith, omega arith, omega (arith, blank-length _ (c .before .before .before .before .before .before .before .pre .4)), repeated-none 1 _ _)
 
 add-off : tie.Need-add-off Inv-loop μ-loop
 add-off c =
@@ -57,7 +57,7 @@ loop-again : tie.Need-loop-again Inv-loop μ-loop
 unfolding rowsAdded
 loop-again c =
     let at-loop = c .before .before .before .before .before .before in
-    (omega arith, omega arith, omega arith, rw (c .before .before .add-row .ensures) (turns-more 1 _ _ _ _ (at-loop .loop .inv .0) (at-loop .loop .inv .3)))
+    (omega arith, omega arith, omega arith, rw (c .before .before .add-row .ensures) (repeated-more 1 _ _ _ _ (at-loop .loop .inv .0) (at-loop .loop .inv .3)))
 
 returns : tie.Need-returns Inv-loop μ-loop
 unfolding columnSums

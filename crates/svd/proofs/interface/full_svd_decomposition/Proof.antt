@@ -1,8 +1,6 @@
 -- `full_svd_decomposition` meets its contract: refused, or the whole run. Assumes nothing.
 use borrow.Author.Needs.{needs}
-use mathlib.Core.Path.{refl}
-use mathlib.Core.Bool.{true, false}
-use mathlib.Core.List.{[]}
+use mathlib.Core.Bool.{true}
 use Rattle.method.specs.Work.{work}
 use Rattle.checks.specs.Values.{settingsOf}
 use Rattle.svd.specs.Calls.{refused-call, accepted-call, call-fit, fit-lending}

@@ -1,6 +1,5 @@
 -- `smaller_size` meets its contract: by the test. Assumes nothing.
-use borrow.Author.Needs.{needs}
-use mathlib.Core.Path.{_≡_, refl, ap, _∙_}
+use mathlib.Core.Path.{refl}
 use native.Mathlib.Omega.{arith}
 use borrow.Author.Tests.{le-leb, lt-leb}
 use Rattle.svd.proofs.interface.smaller_size.Statement.{statement}

@@ -1,7 +1,6 @@
 -- `svd_decomposition` meets its contract: refused, or the whole run with no rows of U and V. Assumes nothing.
 use borrow.Author.Needs.{needs}
-use mathlib.Core.Path.{refl}
-use mathlib.Core.Bool.{true, false}
+use mathlib.Core.Bool.{false}
 use mathlib.Core.List.{[]}
 use Rattle.method.specs.Work.{work}
 use Rattle.checks.specs.Values.{settingsOf}
