@@ -30,6 +30,10 @@ from-word None = refl
 from-word Settled = refl
 from-word Stopped = refl
 
+-- so two words that say the same are the same
+pub word-one : (w w′ : Word) → wordIn w ≡ wordIn w′ → w ≡ w′
+word-one w w′ e = sym (from-word w) ∙ ap fromWord e ∙ from-word w′
+
 -- the refusal and the tally by the method's
 abbrev fromRefusal : Checks.Refusal → Refusal
 fromRefusal r = record { number = r .number; place = r .place }
@@ -63,7 +67,9 @@ pub record SameAnswer (r r′ : Report) (b b′ u u′ v v′ : List Float) : Ty
 -- two outcomes that are one
 answers-one :
     (o : Outcome) (r r′ : Report) (b b′ u u′ v v′ : List Float) →
-    outcomeOf (reportOf r) (work b u v) ≡ o → outcomeOf (reportOf r′) (work b′ u′ v′) ≡ o → SameAnswer r r′ b b′ u u′ v v′
+    outcomeOf (reportOf r) (work b u v) ≡ o →
+    outcomeOf (reportOf r′) (work b′ u′ v′) ≡ o →
+    SameAnswer r r′ b b′ u u′ v v′
 answers-one o r r′ b b′ u u′ v v′ e e′ =
     let d = e ∙ sym e′ in
     record {
@@ -78,12 +84,14 @@ module _ (rows cols : ℕ) (s : Settings) where
   pub full-one :
       (b₀ u₀ v₀ : List Float) (r r′ : Report) (b b′ u u′ v v′ : List Float) →
       outcomeOf (reportOf r) (work b u v) ≡ fullOutcome binary64 rows cols (settingsOf s) (work b₀ u₀ v₀) →
-      outcomeOf (reportOf r′) (work b′ u′ v′) ≡ fullOutcome binary64 rows cols (settingsOf s) (work b₀ u₀ v₀) → SameAnswer r r′ b b′ u u′ v v′
+      outcomeOf (reportOf r′) (work b′ u′ v′) ≡ fullOutcome binary64 rows cols (settingsOf s) (work b₀ u₀ v₀) →
+      SameAnswer r r′ b b′ u u′ v v′
   full-one b₀ u₀ v₀ = answers-one (fullOutcome binary64 rows cols (settingsOf s) (work b₀ u₀ v₀))
 
   -- the plain call, which is lent no factors
   pub plain-one :
       (b₀ : List Float) (r r′ : Report) (b b′ : List Float) →
       outcomeOf (reportOf r) (work b [] []) ≡ plainOutcome binary64 rows cols (settingsOf s) b₀ →
-      outcomeOf (reportOf r′) (work b′ [] []) ≡ plainOutcome binary64 rows cols (settingsOf s) b₀ → (r ≡ r′) × (b ≡ b′)
+      outcomeOf (reportOf r′) (work b′ [] []) ≡ plainOutcome binary64 rows cols (settingsOf s) b₀ →
+      (r ≡ r′) × (b ≡ b′)
   plain-one b₀ r r′ b b′ e e′ = let a = answers-one _ r r′ b b′ [] [] [] [] e e′ in (a .report, a .matrix)

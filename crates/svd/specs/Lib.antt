@@ -3,3 +3,5 @@ pub mod Values
 pub mod Passes
 pub mod Calls
 pub mod Answers
+pub mod Told
+pub mod Demands

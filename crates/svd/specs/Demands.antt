@@ -1,0 +1,182 @@
+-- The three demands, as theorems of the two calls: on every input, of whatever a call's promise allows it to report and
+-- to leave in what it was lent. (That every call ends, without a fault, is what the checker shows of all code.) First the
+-- statements, `Demand1` to `Demand3`, then that they hold of every answer, and the two laws of two calls. They lean on the
+-- definition: `outcome`, `accepted` (method's Outcome), and on the list `meanings` (method's Checks.Table). Assumes nothing.
+use mathlib.Core.Path.{_≡_, sym, ap, _∙_}
+use mathlib.Core.Logic.{_↔_}
+use mathlib.Core.Bool.{Bool, true, false}
+use mathlib.Core.List.{List, []}
+use Prim.Native.Nat.{ℕ, _+_, _-_, _*_, _≤_, _<_}
+use lib.Ieee.{Float, binary64}
+use Rattle.method.specs.Work.{Work, work, packed}
+use Rattle.method.specs.Bidiagonal.{bidiagonal}
+use Rattle.method.specs.Walk.{State, start, run}
+use Rattle.method.specs.Settings.{mostLimit}
+use Rattle.method.specs.Checks.First.{First}
+use Rattle.method.specs.Checks.Readings.{FirstBadAt}
+use Rattle.method.specs.Checks.Table.{meanings, numbers, place}
+use Rattle.method.specs.Report as Report
+use Rattle.method.specs.Report.{refused, reported}
+use Rattle.method.specs.Outcome.{Outcome, outcomeOf, card, isUpper, rulesOf, accepted, outcome}
+use Rattle.method.specs.Outcome.{plainOutcome, fullOutcome}
+use Rattle.method.specs.Outcome.Reports.{accepted-exposed, atLimit}
+use Rattle.method.specs.Outcome.Calls.{calls-agree, settled-stays}
+use Rattle.checks.specs.declared.settings.Settings.{Settings}
+use Rattle.checks.specs.Values.{settingsOf, refusalIn}
+use Rattle.svd.specs.declared.report.Report.{Report}
+use Rattle.svd.specs.declared.report.Word.the-variants.{Settled, Stopped}
+use Rattle.svd.specs.Values.{reportOf, wordIn}
+use Rattle.svd.specs.Answers.{report-one}
+use Rattle.svd.specs.Told.{reportsOf, listsOf, told-number, told-place, told-alone, told-refused, told-accepted}
+use Rattle.svd.specs.Told.{told-true, one-settled, settled-one, more-stopped, stopped-more, settled-fine}
+
+-- ---- what a call may answer
+
+-- On rows, cols, settings s and the lists w₀ a call may report r and leave the lists w. With U and V kept (`kept` true)
+-- it is `full_svd_decomposition`; without, it is `svd_decomposition`, whose lists u and v are empty.
+pub record Allowed (kept : Bool) (rows cols : ℕ) (s : Settings) (w₀ : Work) (r : Report) (w : Work) : Type 0 where
+  pub promise : outcomeOf (reportOf r) w ≡ outcome binary64 kept rows cols (settingsOf s) w₀
+
+module _ (rows cols : ℕ) (s : Settings) (r : Report) where
+  -- this is the promise of the accumulating call, as it stands on it
+  pub full-allowed :
+      (b₀ u₀ v₀ b u v : List Float) →
+      outcomeOf (reportOf r) (work b u v) ≡ fullOutcome binary64 rows cols (settingsOf s) (work b₀ u₀ v₀) →
+      Allowed true rows cols s (work b₀ u₀ v₀) r (work b u v)
+  full-allowed b₀ u₀ v₀ b u v e = record { promise = e }
+
+  -- and of the plain call
+  pub plain-allowed :
+      (b₀ b : List Float) →
+      outcomeOf (reportOf r) (work b [] []) ≡ plainOutcome binary64 rows cols (settingsOf s) b₀ →
+      Allowed false rows cols s (work b₀ [] []) r (work b [] [])
+  plain-allowed b₀ b e = record { promise = e }
+
+-- the report and the lists of a walk's state
+abbrev pub shownBy : State Work → Outcome
+shownBy e = outcomeOf (reported e) (e .held)
+
+-- the state after k passes at credit 0, where a limit of n would have allowed more
+abbrev pub afterPasses : Bool → ℕ → ℕ → Settings → Work → ℕ → ℕ → State Work
+afterPasses kept rows cols s w₀ n k =
+    let z = packed kept rows cols in
+    let upper = isUpper rows cols in
+    let c = card rows cols in
+    let form = bidiagonal binary64 (s .floor) z upper c w₀ in
+    run (rulesOf binary64 z upper (s .tolerance) (s .absolute)) n 0 k (start c form)
+
+module _ (kept : Bool) (rows cols : ℕ) (s : Settings) (w₀ : Work) (r : Report) (w : Work) where
+  -- ---- 1. what is unfit is refused, by number, in a fixed order, and nothing else is; a refused call writes nothing
+
+  pub record Demand1 : Type 0 where
+    -- the number is that of the first condition of the list that holds; 0 is answered exactly when none holds
+    pub number : (k : ℕ) → (r .refusal .number ≡ k) ↔ First k (meanings kept rows cols (settingsOf s) w₀)
+    -- with 8 goes the place of the first reading that is not finite, with every other number 0
+    pub bad-reading : r .refusal .number ≡ 8 → FirstBadAt (w₀ .matrix) (r .refusal .place)
+    pub no-place : ¬ (r .refusal .number ≡ 8) → r .refusal .place ≡ 0
+    -- a refused call reports that alone: the word is `none`, and nothing is counted
+    pub alone : ¬ (r .refusal .number ≡ 0) → reportOf r ≡ refused (refusalIn (r .refusal))
+    -- and it writes nothing
+    pub untouched : ¬ (r .refusal .number ≡ 0) → w ≡ w₀
+
+  -- ---- 2. what is accepted is the definition's, bit for bit
+
+  pub record Demand2 : Type 0 where
+    -- report, matrix, U and V are those of the definition's run: its bidiagonal form and then its walk
+    pub equal : outcomeOf (reportOf r) w ≡ accepted binary64 kept rows cols (settingsOf s) w₀
+    -- at credit 0 the limit shows the state after as many passes
+    pub exposed :
+        s .credit ≡ 0 → (n : ℕ) → s .limit ≤ n →
+        outcomeOf (reportOf r) w ≡ shownBy (afterPasses kept rows cols s w₀ n (s .limit))
+
+  -- ---- 3. the report is true
+
+  pub record Demand3 : Type 0 where
+    -- each pass is a sweep or a drop
+    pub each : r .tally .passes ≡ r .tally .sweeps + r .tally .drops
+    -- a drop takes one from the range, which begins as c and never falls below 1
+    pub drops : r .tally .drops ≡ card rows cols - r .tally .range
+    pub range : (1 ≤ r .tally .range) × (r .tally .range ≤ card rows cols)
+    -- none when c is 1, otherwise at most the limit plus the credit times (c - 2)
+    pub none : card rows cols ≡ 1 → r .tally .passes ≡ 0
+    pub most : r .tally .passes ≤ s .limit + s .credit * (card rows cols - 2)
+    -- `settled` says that the range left is 1, `stopped` that it is more
+    pub settled : (r .word ≡ Settled) ↔ (r .tally .range ≡ 1)
+    pub stopped : (r .word ≡ Stopped) ↔ (1 < r .tally .range)
+
+-- ---- they hold of every answer
+
+shown :
+    (kept : Bool) (rows cols : ℕ) (s : Settings) (w₀ : Work) → s .credit ≡ 0 → (n : ℕ) → s .limit ≤ n →
+    accepted binary64 kept rows cols (settingsOf s) w₀ ≡ shownBy (afterPasses kept rows cols s w₀ n (s .limit))
+unfolding accepted
+shown kept rows cols s w₀ z n h =
+    ap shownBy (accepted-exposed binary64 kept rows cols (settingsOf s) w₀ (s .limit) n h z)
+
+module _ {kept : Bool} {rows cols : ℕ} {s : Settings} {w₀ : Work} {r : Report} {w : Work} where
+  pub demand-1 : Allowed kept rows cols s w₀ r w → Demand1 kept rows cols s w₀ r w
+  demand-1 a =
+      let number = told-number kept rows cols s w₀ r w (a .promise) in
+      let at = told-place kept rows cols s w₀ r w (a .promise) in
+      let of = place kept rows cols (settingsOf s) w₀ in
+      record {
+        number = λ k. rw number (numbers kept rows cols (settingsOf s) w₀ k);
+        bad-reading = λ e. rw at (of .eight (sym number ∙ e));
+        no-place = λ h. at ∙ of .other (λ e. h (number ∙ e));
+        alone = told-alone kept rows cols s w₀ r w (a .promise);
+        untouched = λ h. listsOf (told-refused kept rows cols s w₀ r w (a .promise) h);
+      }
+
+  pub demand-2 : Allowed kept rows cols s w₀ r w → r .refusal .number ≡ 0 → Demand2 kept rows cols s w₀ r w
+  demand-2 a e =
+      let q = told-accepted kept rows cols s w₀ r w (a .promise) e in
+      record { equal = q; exposed = λ z n h. q ∙ shown kept rows cols s w₀ z n h }
+
+  pub demand-3 : Allowed kept rows cols s w₀ r w → r .refusal .number ≡ 0 → Demand3 kept rows cols s w₀ r w
+  demand-3 a e =
+      let t = told-true kept rows cols s w₀ r w (a .promise) e in
+      record {
+        each = t .each;
+        drops = t .drops;
+        range = t .range;
+        none = t .none;
+        most = t .few;
+        settled =
+            (settled-one kept rows cols s w₀ r w (a .promise) e, one-settled kept rows cols s w₀ r w (a .promise) e);
+        stopped =
+            (stopped-more kept rows cols s w₀ r w (a .promise) e, more-stopped kept rows cols s w₀ r w (a .promise) e);
+      }
+
+-- with U and V kept or not, an accepted run has the same report and the same matrix
+pub kept-or-not :
+    {rows cols : ℕ} {s : Settings} {b₀ u₀ v₀ b u v b′ : List Float} {r r′ : Report} →
+    Allowed true rows cols s (work b₀ u₀ v₀) r (work b u v) →
+    Allowed false rows cols s (work b₀ [] []) r′ (work b′ [] []) →
+    r .refusal .number ≡ 0 →
+    (r ≡ r′) × (b ≡ b′)
+kept-or-not {rows} {cols} {s} {b₀} {u₀} {v₀} {r = r} {r′ = r′} a a′ e =
+    let fine = sym (told-number true rows cols s (work b₀ u₀ v₀) r _ (a .promise)) ∙ e in
+    let q = calls-agree binary64 rows cols (settingsOf s) (work b₀ u₀ v₀) fine in
+    let matrix : Work → List Float = λ w. w .matrix in (
+      report-one r r′ (reportsOf (a .promise) ∙ q .0 ∙ sym (reportsOf (a′ .promise))),
+      ap matrix (listsOf (a .promise)) ∙ q .1 ∙ sym (ap matrix (listsOf (a′ .promise))),
+    )
+
+-- a settled answer is, U and V included, the same answer at every greater allowed limit n, all else equal
+pub settled-stands :
+    {kept : Bool} {rows cols n : ℕ} {s s′ : Settings} {w₀ w w′ : Work} {r r′ : Report} →
+    Allowed kept rows cols s w₀ r w →
+    Allowed kept rows cols s′ w₀ r′ w′ →
+    settingsOf s′ ≡ atLimit n (settingsOf s) →
+    s .limit ≤ n →
+    n ≤ mostLimit →
+    r .word ≡ Settled →
+    (r′ ≡ r) × (w′ ≡ w)
+settled-stands {kept} {rows} {cols} {n} {s} {s′} {w₀} {w} {w′} {r} {r′} a a′ g more most e =
+    let p = a .promise in
+    let z = settled-fine kept rows cols s w₀ r w p e in
+    let fine = sym (told-number kept rows cols s w₀ r w p) ∙ z in
+    let word = ap (λ (x : Report.Report). x .word) (sym (reportsOf p)) ∙ ap wordIn e in
+    let same = settled-stays binary64 kept rows cols (settingsOf s) w₀ n more most fine word in
+    let q = rw g at (a′ .promise) ∙ same ∙ sym p in
+    (report-one r′ r (reportsOf q), listsOf q)

@@ -1,0 +1,122 @@
+-- What an answer that a call's promise allows is made of: the refusal that it tells, and the run that it comes from.
+-- Assumes nothing.
+use mathlib.Core.Path.{_≡_, refl, sym, ap, _∙_}
+use mathlib.Core.Bool.{Bool, true, false}
+use Prim.Native.Nat.{ℕ, _<_}
+use native.Mathlib.Omega.{arith}
+use lib.Dec.{ltb, eqb}
+use lib.Ieee.{binary64}
+use borrow.Author.Tests.{ltb-true, ltb-false, eqb-true, eqb-false}
+use Rattle.method.specs.Work.{Work}
+use Rattle.method.specs.Checks as Checks
+use Rattle.method.specs.Checks.{refusalOf}
+use Rattle.method.specs.Checks.Table.{place, fit}
+use Rattle.method.specs.Report as Report
+use Rattle.method.specs.Report.{refused}
+use Rattle.method.specs.Outcome.{Outcome, outcomeOf, card, accepted, outcome}
+use Rattle.method.specs.Outcome.Refused.{refused-outcome, accepted-outcome, outcome-number}
+use Rattle.method.specs.Outcome.Reports.{TrueReport, accepted-true}
+use Rattle.checks.specs.declared.settings.Settings.{Settings}
+use Rattle.checks.specs.Values.{settingsOf, refusalIn}
+use Rattle.svd.specs.declared.report.Report.{Report}
+use Rattle.svd.specs.declared.report.Word.{Word}
+use Rattle.svd.specs.declared.report.Word.the-variants.{None, Settled, Stopped}
+use Rattle.svd.specs.Values.{reportOf}
+use Rattle.svd.specs.Answers.{word-one}
+
+-- the report, and the lists, of an equation between two outcomes
+abbrev pub reportsOf : {o o′ : Outcome} → o ≡ o′ → o .report ≡ o′ .report
+reportsOf e = ap (λ (o : Outcome). o .report) e
+
+abbrev pub listsOf : {o o′ : Outcome} → o ≡ o′ → o .held ≡ o′ .held
+listsOf e = ap (λ (o : Outcome). o .held) e
+
+-- by their numbers the words differ
+abbrev numbered : Word → ℕ
+numbered None = 0
+numbered Settled = 1
+numbered Stopped = 2
+
+module _ (kept : Bool) (rows cols : ℕ) (s : Settings) (w₀ : Work) (r : Report) (w : Work) where
+  abbrev found : Checks.Refusal
+  found = refusalOf kept rows cols (settingsOf s) w₀
+
+  module _ (a : outcomeOf (reportOf r) w ≡ outcome binary64 kept rows cols (settingsOf s) w₀) where
+    -- the number that is told is the refusal's
+    pub told-number : r .refusal .number ≡ found .number
+    told-number =
+        ap (λ (x : Report.Report). x .refusal .number) (reportsOf a)
+        ∙ outcome-number binary64 kept rows cols (settingsOf s) w₀
+
+    -- the two ways out
+    pub told-refused : ¬ (r .refusal .number ≡ 0) → outcomeOf (reportOf r) w ≡ outcomeOf (refused found) w₀
+    told-refused h = a ∙ refused-outcome binary64 kept rows cols (settingsOf s) w₀ (λ e. h (told-number ∙ e))
+
+    pub told-accepted :
+        r .refusal .number ≡ 0 →
+        outcomeOf (reportOf r) w ≡ accepted binary64 kept rows cols (settingsOf s) w₀
+    told-accepted e = a ∙ accepted-outcome binary64 kept rows cols (settingsOf s) w₀ (sym told-number ∙ e)
+
+    accepted-place : accepted binary64 kept rows cols (settingsOf s) w₀ .report .refusal .place ≡ 0
+    unfolding accepted
+    accepted-place = refl
+
+    -- the place that is told is the refusal's
+    pub told-place : r .refusal .place ≡ found .place
+    told-place = go (eqb (r .refusal .number) 0) refl
+      where
+        go : (t : Bool) → eqb (r .refusal .number) 0 ≡ t → r .refusal .place ≡ found .place
+        go true t =
+            let e = eqb-true (r .refusal .number) 0 t in
+            ap (λ (x : Report.Report). x .refusal .place) (reportsOf (told-accepted e))
+            ∙ accepted-place
+            ∙ sym (place kept rows cols (settingsOf s) w₀ .other (λ z. omega (arith, told-number, e, z)))
+        go false t =
+            let some = eqb-false (r .refusal .number) 0 t in
+            ap (λ (x : Report.Report). x .refusal .place) (reportsOf (told-refused some))
+
+    -- a refused call tells its refusal alone
+    pub told-alone : ¬ (r .refusal .number ≡ 0) → reportOf r ≡ refused (refusalIn (r .refusal))
+    told-alone h =
+        let q = reportsOf (told-refused h) in
+        q ∙ ap refused (sym (ap (λ (x : Report.Report). x .refusal) q))
+
+    -- what is settled was not refused
+    pub settled-fine : r .word ≡ Settled → r .refusal .number ≡ 0
+    settled-fine e = go (eqb (r .refusal .number) 0) refl
+      where
+        go : (t : Bool) → eqb (r .refusal .number) 0 ≡ t → r .refusal .number ≡ 0
+        go true t = eqb-true _ 0 t
+        go false t =
+            let q = word-one (r .word) None (ap (λ (x : Report.Report). x .word) (told-alone (eqb-false _ 0 t))) in
+            absurd (let z : 1 ≡ 0 = ap numbered (sym e ∙ q) in omega (arith, z))
+
+    module _ (e : r .refusal .number ≡ 0) where
+      -- the report of an accepted run is true
+      pub told-true : TrueReport (settingsOf s) (card rows cols) (reportOf r)
+      told-true =
+          let k = fit kept rows cols (settingsOf s) w₀ (sym told-number ∙ e) in
+          rw (reportsOf (told-accepted e))
+          (accepted-true binary64 kept rows cols (settingsOf s) w₀ (k .rows-some) (k .cols-some))
+
+      pub one-settled : r .tally .range ≡ 1 → r .word ≡ Settled
+      one-settled q = word-one (r .word) Settled (told-true .settled q)
+
+      pub more-stopped : 1 < r .tally .range → r .word ≡ Stopped
+      more-stopped q = word-one (r .word) Stopped (told-true .stopped q)
+
+      pub settled-one : r .word ≡ Settled → r .tally .range ≡ 1
+      settled-one q = go (ltb 1 (r .tally .range)) refl
+        where
+          go : (b : Bool) → ltb 1 (r .tally .range) ≡ b → r .tally .range ≡ 1
+          go true t = absurd (let z : 1 ≡ 2 = ap numbered (sym q ∙ more-stopped (ltb-true _ _ t)) in omega (arith, z))
+          go false t = omega (arith, told-true .range .0, ltb-false 1 (r .tally .range) t)
+
+      pub stopped-more : r .word ≡ Stopped → 1 < r .tally .range
+      stopped-more q = go (ltb 1 (r .tally .range)) refl
+        where
+          go : (b : Bool) → ltb 1 (r .tally .range) ≡ b → 1 < r .tally .range
+          go true t = ltb-true _ _ t
+          go false t =
+              let i : r .tally .range ≡ 1 = omega (arith, told-true .range .0, ltb-false 1 (r .tally .range) t) in
+              absurd (let z : 2 ≡ 1 = ap numbered (sym q ∙ one-settled i) in omega (arith, z))
