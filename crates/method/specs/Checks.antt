@@ -61,7 +61,7 @@ boundFit x = finite x && not (lt x plusZero)
 abbrev pub floorFit : Float → Bool
 floorFit x = finite x && lt plusZero x
 
--- ---- 01's table, segment by segment
+-- ---- the table of numbers, segment by segment
 
 abbrev pub sizeChecks : ℕ → ℕ → List Check
 sizeChecks rows cols =

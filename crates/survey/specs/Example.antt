@@ -1,4 +1,4 @@
--- 01's own example, whole, by computing; and the same text without its last LF. Assumes nothing.
+-- The rules' own example (docs/RULES.md, 11.6), whole, by computing; and the same text without its last LF. Assumes nothing.
 use mathlib.Core.Path.{_≡_, refl}
 use mathlib.Core.List.{[], _∷_, _++_}
 use lib.Ieee.{neg, add, sub, mul, div, lt, eq, isNan, ofBits, toBits}
