@@ -1,5 +1,5 @@
--- The whole outcome of each public call, for every input (document 003, and 01's table of numbers): the first refusal that applies, with all lists as they
--- were, or the accepted run's report and lists. Definitions only.
+-- The whole outcome of each public call, for every input (document 003, and 01's table of numbers): the first refusal
+-- that applies, with all lists as they were, or the accepted run's report and lists. Definitions only.
 pub mod Reports
 pub mod Refused
 pub mod Calls

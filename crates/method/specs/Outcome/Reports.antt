@@ -1,5 +1,6 @@
--- The report is true: what every accepted run reports, that the factors change neither report nor matrix, that a settled answer is the same at every greater
--- limit, and that at credit 0 each limit shows the state after as many passes. Assumes nothing.
+-- The report is true: what every accepted run reports, that the factors change neither report nor matrix, that a
+-- settled answer is the same at every greater limit, and that at credit 0 each limit shows the state after as many
+-- passes. Assumes nothing.
 use mathlib.Core.Path.{_≡_, refl}
 use mathlib.Core.Logic.{_⊎_, inl, inr}
 use mathlib.Core.Bool.{Bool, true, false}
@@ -87,15 +88,20 @@ module _ (f : Format) (kept : Bool) (rows cols : ℕ) (s : Settings) (w : Work) 
 -- ---- at a greater limit
 
 abbrev pub atLimit : ℕ → Settings → Settings
-atLimit n s = record { limit = n; credit = s .credit; tolerance = s .tolerance; absolute = s .absolute; floor = s .floor }
+atLimit n s =
+    record { limit = n; credit = s .credit; tolerance = s .tolerance; absolute = s .absolute; floor = s .floor }
 
 module _ (f : Format) (kept : Bool) (rows cols : ℕ) (s : Settings) (w : Work) where
   -- a settled run is the same run at every greater limit
-  pub accepted-settled : (n : ℕ) → s .limit ≤ n → accepted f kept rows cols s w .report .word ≡ settled → accepted f kept rows cols (atLimit n s) w ≡ accepted f kept rows cols s w
+  pub accepted-settled :
+      (n : ℕ) → s .limit ≤ n → accepted f kept rows cols s w .report .word ≡ settled →
+      accepted f kept rows cols (atLimit n s) w ≡ accepted f kept rows cols s w
   unfolding accepted
   accepted-settled n h e =
       let z = packed kept rows cols in
-      let q : walkedFrom f z rows cols (atLimit n s) w ≡ walkedFrom f z rows cols s w = Limits.settled (rulesOf f z (isUpper rows cols) (s .tolerance) (s .absolute)) (s .credit) h (card rows cols) _ (le-of-eq (settled-one (walkedFrom f z rows cols s w) e)) in
+      let q : walkedFrom f z rows cols (atLimit n s) w ≡ walkedFrom f z rows cols s w =
+      Limits.settled (rulesOf f z (isUpper rows cols) (s .tolerance) (s .absolute)) (s .credit) h (card rows cols) _
+      (le-of-eq (settled-one (walkedFrom f z rows cols s w) e)) in
       rw q
 
   -- at credit 0 the limit k shows the state after k passes: the run of any greater limit n, cut off after k
@@ -104,4 +110,7 @@ module _ (f : Format) (kept : Bool) (rows cols : ℕ) (s : Settings) (w : Work) 
       walkedFrom f (packed kept rows cols) rows cols (atLimit k s) w ≡
       run (rulesOf f (packed kept rows cols) (isUpper rows cols) (s .tolerance) (s .absolute)) n 0 k
       (start (card rows cols) (bidiagonal f (s .floor) (packed kept rows cols) (isUpper rows cols) (card rows cols) w))
-  accepted-exposed k n h e = rw e (Limits.exposed (rulesOf f (packed kept rows cols) (isUpper rows cols) (s .tolerance) (s .absolute)) h (card rows cols) _)
+  accepted-exposed k n h e =
+      rw e
+      (Limits.exposed (rulesOf f (packed kept rows cols) (isUpper rows cols) (s .tolerance) (s .absolute)) h
+      (card rows cols) _)
