@@ -194,10 +194,6 @@ unfolding lineCleared
 lineCleared-length at step n a = stored 0 (λ k. at + k * step) (λ k a. plusZero) n a
 
 module _ (f : Format) where
-  pub scaled-length : (v : List Float) (at : ℕ) (x : Float) (n : ℕ) → length (scaled f v at x n) ≡ 48
-  unfolding scaled
-  scaled-length v at x n = stored 0 (λ k. k) (λ k w. mul f (getD v (at + k) nan) x) n blank
-
   pub reflectionOf-entries :
       (floor : Float) (at n : ℕ) (v : List Float) → length (reflectionOf f floor at n v .entries) ≡ length v
   reflectionOf-entries floor at n v = go (lt (largestOf v at n) floor) refl

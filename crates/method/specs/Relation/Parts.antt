@@ -120,7 +120,7 @@ parts-kept {f} {floor} {rows} {cols} {stride} {stride′} {c} {urows} {urows′}
           v = v .turn g i (w .v) (w′ .v) h (r .v);
         }
 
--- ---- the simplest parts: equal matrices of one stride, equal factors, and factors of which nothing is asked
+-- ---- the simplest parts: equal matrices of one stride, and factors of which nothing is asked
 
 abbrev pub Equal : Between
 Equal a a′ = a ≡ a′
@@ -153,10 +153,3 @@ equal-kept f floor rows cols stride c =
 
 pub any-kept : (f : Format) (n kept kept′ c : ℕ) → FactorKept f n kept kept′ c Any
 any-kept f n kept kept′ c = record { reflect = λ p tau i a a′ h q. tt; turn = λ g i a a′ h q. tt }
-
-pub equal-factor : (f : Format) (n kept c : ℕ) → FactorKept f n kept kept c Equal
-equal-factor f n kept c =
-    record {
-      reflect = λ p tau i a a′ h e. ap (reflectedRight f p tau n 0 i kept (n - i)) e;
-      turn = λ g i a a′ h e. ap (columnsTurned f g n i 0 kept) e;
-    }

@@ -4,7 +4,7 @@ use Prim.Native.Nat.{ℕ, zero, suc, _-_, _≤_, _<_}
 use native.Mathlib.Omega.{arith}
 use mathlib.Core.Path.{_≡_, refl, sym, _∙_}
 use mathlib.Core.Bool.{Bool, true, false}
-use Rattle.method.specs.Walk.{Walk, Rules, State, begun, afterDrop, afterSweep, going, run, enough, walked}
+use Rattle.method.specs.Walk.{Walk, Rules, State, afterDrop, afterSweep, going, run}
 use Rattle.method.specs.Walk.Run.{Going, going-true, pass-drop, pass-sweep, run-more, run-end}
 
 -- ---- two walks over related data have the same record and related data
@@ -72,7 +72,3 @@ module _ {D D′ : Type 0} (rules : Rules D) (rules′ : Rules D′) (limit cred
             pass-sweep rules′ credit s′ q′,
           )
           (sw h (f .sweeps (w .tally .range) d d′ (g .wide) h r))
-
-  pub walked-alike :
-      (d : D) (d′ : D′) → R d d′ → Alike R (walked rules limit credit c d) (walked rules′ limit credit c d′)
-  walked-alike d d′ r = run-alike (enough limit credit c) (begun c) d d′ (omega arith) r

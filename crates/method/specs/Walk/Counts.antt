@@ -128,22 +128,6 @@ module _ {D : Type 0} (rules : Rules D) (limit credit c : ℕ) where
       (n : ℕ) (d : D) → enough limit credit c ≤ n → run rules limit credit n (start c d) ≡ walked rules limit credit c d
   walked-same n d h = run-same rules credit limit (start c d) h (walked-done d)
 
-  -- what every sweep keeps of the data, a run keeps
-  pub held-keeps :
-      (P : D → Type 0) → ((r : ℕ) (d : D) → 1 < r → r ≤ c → P d → P (rules .sweep r d)) → (n : ℕ) (d : D) → P d →
-      P (run rules limit credit n (start c d) .held)
-  held-keeps P step n d p =
-      run-keeps rules credit limit (λ s. Reached limit credit c (s .walk) × P (s .held))
-      (λ s g k.
-      pass-keeps rules credit (λ s′. Reached limit credit c (s′ .walk) × P (s′ .held)) s
-      (reached-drop (s .walk) g (k .0), k .1) (
-        reached-sweep (s .walk) g (k .0),
-        step (s .walk .tally .range) (s .held) (g .wide) (omega (arith, k .0 .whole)) (k .1),
-      ))
-      n
-      (start c d)
-      (reached-start, p) .1
-
 -- ---- what is promised of a whole walk's record
 
 pub record WholeWalk (limit credit c : ℕ) (w : Walk) : Type 0 where
