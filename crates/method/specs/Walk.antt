@@ -7,6 +7,7 @@ pub mod Counts
 pub mod Limits
 pub mod Alike
 pub mod Loop
+pub mod Applied
 use Prim.Native.Nat.{ℕ, zero, suc, _+_, _-_, _*_}
 use mathlib.Core.Bool.{Bool, true, false, _&&_}
 use lib.Dec.{ltb}
