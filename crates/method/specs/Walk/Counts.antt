@@ -67,7 +67,6 @@ pub record Reached (limit credit c : ℕ) (w : Walk) : Type 0 where
   pub each : w .tally .passes ≡ w .tally .sweeps + w .tally .drops
   pub whole : w .tally .range + w .tally .drops ≡ c
   pub kept : 1 ≤ c → 1 ≤ w .tally .range
-  pub low : w .counter ≤ limit
   pub few : w .tally .passes ≤ enough limit credit c
   pub left : 1 < w .tally .range → w .tally .passes + ahead limit credit w ≤ enough limit credit c
   pub none : c ≤ 1 → w .tally .passes ≡ 0
@@ -79,7 +78,6 @@ module _ {D : Type 0} (rules : Rules D) (limit credit c : ℕ) where
         each = omega arith;
         whole = omega arith;
         kept = λ h. h;
-        low = omega arith;
         few = omega arith;
         left = λ h. omega arith;
         none = λ h. refl;
@@ -91,7 +89,6 @@ module _ {D : Type 0} (rules : Rules D) (limit credit c : ℕ) where
         each = omega arith;
         whole = omega arith;
         kept = λ h. omega (arith, g .wide);
-        low = omega arith;
         few = omega (arith, k .left (g .wide), ahead-some limit credit w g);
         left = λ h. omega (arith, k .left (g .wide), ahead-drop limit credit w g h);
         none = λ h. absurd (let z : ⊥ = omega arith in z);
@@ -103,7 +100,6 @@ module _ {D : Type 0} (rules : Rules D) (limit credit c : ℕ) where
         each = omega arith;
         whole = omega arith;
         kept = k .kept;
-        low = omega arith;
         few = omega (arith, k .left (g .wide), ahead-some limit credit w g);
         left = λ h. omega (arith, k .left (g .wide), ahead-sweep limit credit w g);
         none = λ h. absurd (let z : ⊥ = omega arith in z);
