@@ -10,12 +10,13 @@ use lib.Ieee.{Float, nan, Format, add, sub, mul, div, neg, lt}
 use Rattle.method.specs.Floats.{plusZero, one, pick, magnitude, signOf}
 use Rattle.method.specs.Root.{squareRoot}
 use Rattle.method.specs.Repeated.{repeated, repeated-keep}
+use Rattle.method.specs.Settings.{mostSize}
 
--- a scratch vector: 48 times +0
+-- a scratch vector: +0, for as many entries as a line can have
 abbrev pub blank : List Float
-blank = replicate 48 plusZero
+blank = replicate mostSize plusZero
 
-pub blank-length : (w : List Float) → w ≡ blank → length w ≡ 48
+pub blank-length : (w : List Float) → w ≡ blank → length w ≡ mostSize
 blank-length w e = ap length e
 
 -- ---- a line: n entries from `at` on, `step` apart

@@ -14,7 +14,7 @@ use Rattle.method.specs.Walk.Counts.{enough-most}
 use Rattle.method.specs.Checks.{refusalOf}
 use Rattle.method.specs.Report.{settled}
 use Rattle.method.specs.Outcome.{outcome, plainOutcome, fullOutcome}
-use Rattle.method.specs.Settings.{Settings, mostPasses}
+use Rattle.method.specs.Settings.{Settings, mostLimit, mostCredit, mostPasses}
 use Rattle.method.specs.Checks.Table.{clear, fit}
 use Rattle.method.specs.Outcome.Refused.{accepted-outcome}
 use Rattle.method.specs.Outcome.Reports.{accepted-true, accepted-settled, atLimit, card-most}
@@ -49,7 +49,7 @@ calls-agree f rows cols s w e =
 
 -- another allowed limit is not refused where this one is not
 pub limit-accepts :
-    (kept : Bool) (rows cols : ℕ) (s : Settings) (w : Work) (n : ℕ) → n ≤ 100000 →
+    (kept : Bool) (rows cols : ℕ) (s : Settings) (w : Work) (n : ℕ) → n ≤ mostLimit →
     refusalOf kept rows cols s w .number ≡ 0 →
     refusalOf kept rows cols (atLimit n s) w .number ≡ 0
 limit-accepts kept rows cols s w n h e =
@@ -62,7 +62,8 @@ limit-accepts kept rows cols s w n h e =
       readings = c .readings;
     }
   where
-    low : ((100000 < s .limit) ⊎ (1000 < s .credit) → ⊥) → (100000 < n) ⊎ (1000 < s .credit) → ⊥
+    low :
+        ((mostLimit < s .limit) ⊎ (mostCredit < s .credit) → ⊥) → (mostLimit < n) ⊎ (mostCredit < s .credit) → ⊥
     low k (inl l) = omega arith
     low k (inr l) = k (inr l)
 
@@ -70,7 +71,7 @@ limit-accepts kept rows cols s w n h e =
 pub settled-stays :
     (f : Format) (kept : Bool) (rows cols : ℕ) (s : Settings) (w : Work) (n : ℕ) →
     s .limit ≤ n →
-    n ≤ 100000 →
+    n ≤ mostLimit →
     refusalOf kept rows cols s w .number ≡ 0 →
     outcome f kept rows cols s w .report .word ≡ settled →
     outcome f kept rows cols (atLimit n s) w ≡ outcome f kept rows cols s w

@@ -17,7 +17,7 @@ use Rattle.method.specs.Walk.Applied.{applied, walked-applied}
 use Rattle.method.specs.Report.{settled, stopped, Report}
 use Rattle.method.specs.Report.Words.{settled-one, one-settled, more-stopped}
 use Rattle.method.specs.Outcome.{card, rulesFor, formOf, walkedFrom, accepted}
-use Rattle.method.specs.Settings.{Settings}
+use Rattle.method.specs.Settings.{Settings, mostSize}
 
 -- ---- what every accepted run reports, over a diagonal of c entries
 
@@ -39,10 +39,10 @@ card-some rows cols h g = go (leb cols rows) refl
     go true e = rw e g
     go false e = rw e h
 
-pub card-most : (rows cols : ℕ) → rows ≤ 48 → cols ≤ 48 → card rows cols ≤ 48
+pub card-most : (rows cols : ℕ) → rows ≤ mostSize → cols ≤ mostSize → card rows cols ≤ mostSize
 card-most rows cols h g = go (leb cols rows) refl
   where
-    go : (t : Bool) → leb cols rows ≡ t → card rows cols ≤ 48
+    go : (t : Bool) → leb cols rows ≡ t → card rows cols ≤ mostSize
     go true e = rw e g
     go false e = rw e h
 

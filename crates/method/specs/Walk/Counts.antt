@@ -152,6 +152,6 @@ whole-walk rules limit credit c d h =
 pub enough-most :
     {limit credit c : ℕ} → c ≤ mostSize → limit ≤ mostLimit → credit ≤ mostCredit → enough limit credit c ≤ mostPasses
 enough-most {limit} {credit} {c} hc hl hk =
-    let m : credit * (c - 2) ≤ 1000 * 46 =
-    mul-le-mul {n₁ = credit} {m₁ = c - 2} {n₂ = 1000} {m₂ = 46} hk (omega arith) in
+    let m : credit * (c - 2) ≤ mostCredit * (mostSize - 2) =
+    mul-le-mul {n₁ = credit} {m₁ = c - 2} {n₂ = mostCredit} {m₂ = mostSize - 2} hk (omega arith) in
     omega arith
