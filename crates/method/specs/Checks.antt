@@ -1,4 +1,5 @@
--- What a call checks before it touches a number: 01's table of numbers in its order, and the first of them that the input fails. Definitions only.
+-- What a call checks before it touches a number: 01's table of numbers in its order, and the first of them that the
+-- input fails. Definitions only.
 pub mod Tests
 pub mod First
 pub mod Readings
@@ -87,7 +88,8 @@ abbrev pub readingChecks : List Float → List Check
 readingChecks b = placed 8 (ltb (firstBad b) (length b)) (firstBad b) ∷ []
 
 abbrev pub checks : Bool → ℕ → ℕ → Settings → Work → List Check
-checks kept rows cols s w = sizeChecks rows cols ++ lengthChecks kept rows cols w ++ settingChecks s ++ readingChecks (w .matrix)
+checks kept rows cols s w =
+    sizeChecks rows cols ++ lengthChecks kept rows cols w ++ settingChecks s ++ readingChecks (w .matrix)
 
 abbrev pub refusalOf : Bool → ℕ → ℕ → Settings → Work → Refusal
 refusalOf kept rows cols s w = firstOf (checks kept rows cols s w)

@@ -19,4 +19,11 @@ defaultFloor = ofBits binary64 0x3b92_e3b4_0a0e_9b4f
 
 -- limit 100, credit 50, tolerance 1e-10, absolute 1e-12, floor 1e-21
 abbrev pub defaults : Settings
-defaults = record { limit = 100; credit = 50; tolerance = defaultTolerance; absolute = defaultAbsolute; floor = defaultFloor }
+defaults =
+    record {
+      limit = 100;
+      credit = 50;
+      tolerance = defaultTolerance;
+      absolute = defaultAbsolute;
+      floor = defaultFloor;
+    }

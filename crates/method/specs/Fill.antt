@@ -1,4 +1,5 @@
--- The identity fill of size n: what it leaves in the list, and the number it answers, for every input. Definitions only.
+-- The identity fill of size n: what it leaves in the list, and the number it answers, for every input. Definitions
+-- only.
 pub mod Numbers
 use mathlib.Core.Bool.{true, false, not}
 use mathlib.Core.List.{List, [], _∷_}

@@ -1,6 +1,7 @@
--- The numbers that the method writes out, and four of its five helpers on floats: magnitude, sign, smaller and larger. (The fifth, the
--- square root, is in Root.) They turn on no format: each hands back one of its arguments, its magnitude, or 1 with its sign. Definitions,
--- and that the patterns the code writes stand for these numbers. Assumes nothing.
+-- The numbers that the method writes out, and four of its five helpers on floats: magnitude, sign, smaller and larger.
+-- (The fifth, the square root, is in Root.) They turn on no format: each hands back one of its arguments, its
+-- magnitude, or 1 with its sign. Definitions, and that the patterns the code writes stand for these numbers. Assumes
+-- nothing.
 pub mod Laws
 use mathlib.Core.Path.{_≡_, refl}
 use mathlib.Core.Bool.{Bool, true, false}

@@ -10,8 +10,11 @@ use lib.Ieee.{Float, Format, eq}
 use Rattle.method.specs.Floats.{plusZero}
 use Rattle.method.specs.Work.{Work, Shape, packed}
 use Rattle.method.specs.Rotation.{Rotation, rowsTurned-length, columnsTurned-length}
-use Rattle.method.specs.Reflection.{Reflection, reflectionOf, lineCleared-length, reflectionOf-entries, reflectedRight-length, reflectedLeft-length}
-use Rattle.method.specs.Bidiagonal.{columnReflection, headed, columnMatrix, rowMatrix, factorReflected, columnZeroed, rowZeroed, bidiagonal, column-still, column-moved, row-still, row-moved, factor-still, factor-moved}
+use Rattle.method.specs.Reflection.{Reflection, reflectionOf, lineCleared-length, reflectionOf-entries}
+use Rattle.method.specs.Reflection.{reflectedRight-length, reflectedLeft-length}
+use Rattle.method.specs.Bidiagonal.{columnReflection, headed, columnMatrix, rowMatrix, factorReflected}
+use Rattle.method.specs.Bidiagonal.{columnZeroed, rowZeroed, bidiagonal, column-still, column-moved, row-still}
+use Rattle.method.specs.Bidiagonal.{row-moved, factor-still, factor-moved}
 use Rattle.method.specs.Chase.{turned, steps, swept}
 use Rattle.method.specs.Relation.Alone.{Holds, bidiagonal-holds, steps-holds, swept-holds, run-holds}
 use Rattle.method.specs.Checks.{refusalOf}
@@ -45,7 +48,9 @@ module _ (f : Format) (floor : Float) (rows cols stride i j : ℕ) (a : List Flo
 
       go : (t : Bool) → eq (r .tau) plusZero ≡ t → length (columnMatrix f floor rows cols stride i j a) ≡ length a
       go true e = rw (← column-still f floor rows cols stride i j a r refl e) (headed-length r)
-      go false e = rw (← column-moved f floor rows cols stride i j a r refl e) (reflectedLeft-length f _ _ _ _ _ _ _ _ ∙ headed-length r)
+      go false e =
+          rw (← column-moved f floor rows cols stride i j a r refl e)
+          (reflectedLeft-length f _ _ _ _ _ _ _ _ ∙ headed-length r)
 
   pub rowMatrix-length : length (rowMatrix f floor rows cols stride i j a) ≡ length a
   rowMatrix-length = go (eq (r .tau) plusZero) refl
@@ -55,9 +60,12 @@ module _ (f : Format) (floor : Float) (rows cols stride i j : ℕ) (a : List Flo
 
       go : (t : Bool) → eq (r .tau) plusZero ≡ t → length (rowMatrix f floor rows cols stride i j a) ≡ length a
       go true e = rw (← row-still f floor rows cols stride i j a r refl e) (reflectionOf-entries f floor _ _ a)
-      go false e = rw (← row-moved f floor rows cols stride i j a r refl e) (reflectedRight-length f _ _ _ _ _ _ _ _ ∙ reflectionOf-entries f floor _ _ a)
+      go false e =
+          rw (← row-moved f floor rows cols stride i j a r refl e)
+          (reflectedRight-length f _ _ _ _ _ _ _ _ ∙ reflectionOf-entries f floor _ _ a)
 
-pub factor-length : (f : Format) (r : Reflection) (n kept i : ℕ) (a : List Float) → length (factorReflected f r n kept i a) ≡ length a
+pub factor-length :
+    (f : Format) (r : Reflection) (n kept i : ℕ) (a : List Float) → length (factorReflected f r n kept i a) ≡ length a
 factor-length f r n kept i a = go (eq (r .tau) plusZero) refl
   where
     go : (t : Bool) → eq (r .tau) plusZero ≡ t → length (factorReflected f r n kept i a) ≡ length a
@@ -67,17 +75,21 @@ factor-length f r n kept i a = go (eq (r .tau) plusZero) refl
 module _ (f : Format) (floor : Float) (z : Shape) where
   pub columnZeroed-lengths : (i j : ℕ) (w : Work) → SameLengths w (columnZeroed f floor z i j w)
   unfolding columnZeroed
-  columnZeroed-lengths i j w = record { matrix = columnMatrix-length f floor _ _ _ i j _; u = factor-length f _ _ _ i _; v = refl }
+  columnZeroed-lengths i j w =
+      record { matrix = columnMatrix-length f floor _ _ _ i j _; u = factor-length f _ _ _ i _; v = refl }
 
   pub rowZeroed-lengths : (i j : ℕ) (w : Work) → SameLengths w (rowZeroed f floor z i j w)
   unfolding rowZeroed
-  rowZeroed-lengths i j w = record { matrix = rowMatrix-length f floor _ _ _ i j _; u = refl; v = factor-length f _ _ _ j _ }
+  rowZeroed-lengths i j w =
+      record { matrix = rowMatrix-length f floor _ _ _ i j _; u = refl; v = factor-length f _ _ _ j _ }
 
 module _ (f : Format) (z : Shape) where
   pub turned-lengths : (g : Rotation) (byRow : Bool) (i j n : ℕ) (w : Work) → SameLengths w (turned f z g byRow i j n w)
   unfolding turned
-  turned-lengths g true i j n w = record { matrix = rowsTurned-length f g _ i j n _; u = columnsTurned-length f g _ i 0 _ _; v = refl }
-  turned-lengths g false i j n w = record { matrix = columnsTurned-length f g _ i j n _; u = refl; v = columnsTurned-length f g _ i 0 _ _ }
+  turned-lengths g true i j n w =
+      record { matrix = rowsTurned-length f g _ i j n _; u = columnsTurned-length f g _ i 0 _ _; v = refl }
+  turned-lengths g false i j n w =
+      record { matrix = columnsTurned-length f g _ i j n _; u = refl; v = columnsTurned-length f g _ i 0 _ _ }
 
 -- ---- the run, by the law of Relation
 
@@ -89,27 +101,38 @@ lengths-hold f floor z c w₀ =
       turn = λ t byRow i j n w h l r. onward r (turned-lengths f z t byRow i j n w);
     }
 
-pub bidiagonal-kept : (f : Format) (floor : Float) (z : Shape) (upper : Bool) (c : ℕ) (w w′ : Work) → w′ ≡ bidiagonal f floor z upper c w → SameLengths w w′
-bidiagonal-kept f floor z upper c w w′ e = rw e (bidiagonal-holds (lengths-hold f floor z (c + 1) w) upper c w (omega arith) (same w))
+pub bidiagonal-kept :
+    (f : Format) (floor : Float) (z : Shape) (upper : Bool) (c : ℕ) (w w′ : Work) →
+    w′ ≡ bidiagonal f floor z upper c w →
+    SameLengths w w′
+bidiagonal-kept f floor z upper c w w′ e =
+    rw e (bidiagonal-holds (lengths-hold f floor z (c + 1) w) upper c w (omega arith) (same w))
 
 module _ (f : Format) (z : Shape) where
   pub swept-lengths : (upper : Bool) (k : ℕ) (w : Work) → SameLengths w (swept f z upper k w)
   swept-lengths upper k w = swept-holds (lengths-hold f plusZero z (k + 2) w) upper k w (omega arith) (same w)
 
-  pub turned-kept : (g : Rotation) (byRow : Bool) (i j n : ℕ) (w w′ : Work) → w′ ≡ turned f z g byRow i j n w → SameLengths w w′
+  pub turned-kept :
+      (g : Rotation) (byRow : Bool) (i j n : ℕ) (w w′ : Work) → w′ ≡ turned f z g byRow i j n w → SameLengths w w′
   turned-kept g byRow i j n w w′ e = rw e (turned-lengths f z g byRow i j n w)
 
   pub steps-kept : (upper : Bool) (n : ℕ) (w w′ : Work) → w′ ≡ steps f z upper n w → SameLengths w w′
   steps-kept upper n w w′ e = rw e (steps-holds (lengths-hold f plusZero z (n + 2) w) upper n w (omega arith) (same w))
 
-  pub walkedFrom-lengths : (rows cols : ℕ) (s : Settings) (w : Work) → SameLengths w (walkedFrom f z rows cols s w .held)
-  walkedFrom-lengths rows cols s w = run-holds rows cols s (lengths-hold f (s .floor) z (card rows cols + 1) w) (omega arith) (omega arith) w (same w)
+  pub walkedFrom-lengths :
+      (rows cols : ℕ) (s : Settings) (w : Work) → SameLengths w (walkedFrom f z rows cols s w .held)
+  walkedFrom-lengths rows cols s w =
+      run-holds rows cols s (lengths-hold f (s .floor) z (card rows cols + 1) w) (omega arith) (omega arith) w (same w)
 
 -- whatever the input, accepted or refused
-pub outcome-lengths : (f : Format) (kept : Bool) (rows cols : ℕ) (s : Settings) (w : Work) → SameLengths w (outcome f kept rows cols s w .held)
+pub outcome-lengths :
+    (f : Format) (kept : Bool) (rows cols : ℕ) (s : Settings) (w : Work) →
+    SameLengths w (outcome f kept rows cols s w .held)
 unfolding outcome accepted
 outcome-lengths f kept rows cols s w = go (eqb (refusalOf kept rows cols s w .number) 0) refl
   where
-    go : (t : Bool) → eqb (refusalOf kept rows cols s w .number) 0 ≡ t → SameLengths w (outcome f kept rows cols s w .held)
+    go :
+        (t : Bool) → eqb (refusalOf kept rows cols s w .number) 0 ≡ t →
+        SameLengths w (outcome f kept rows cols s w .held)
     go true e = rw (e, outcome) (walkedFrom-lengths f (packed kept rows cols) rows cols s w)
     go false e = rw (e, outcome) (same w)

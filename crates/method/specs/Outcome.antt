@@ -1,5 +1,5 @@
--- The whole outcome of each public call, for every input (document 003, and 01's table of numbers): the first refusal that applies, with all lists as they
--- were, or the accepted run's report and lists. Definitions only.
+-- The whole outcome of each public call, for every input (document 003, and 01's table of numbers): the first refusal
+-- that applies, with all lists as they were, or the accepted run's report and lists. Definitions only.
 pub mod Reports
 pub mod Refused
 pub mod Calls
@@ -44,11 +44,17 @@ rulesOf f z upper tolerance absolute =
       sweep = λ r w. swept f z upper (r - 2) w;
     }
 
--- the bidiagonal form, and then the walk
+abbrev pub rulesFor : Format → Shape → ℕ → ℕ → Settings → Rules Work
+rulesFor f z rows cols s = rulesOf f z (isUpper rows cols) (s .tolerance) (s .absolute)
+
+-- the bidiagonal form
+abbrev pub formOf : Format → Shape → ℕ → ℕ → Settings → Work → Work
+formOf f z rows cols s w = bidiagonal f (s .floor) z (isUpper rows cols) (card rows cols) w
+
+-- and then the walk
 abbrev pub walkedFrom : Format → Shape → ℕ → ℕ → Settings → Work → State Work
 walkedFrom f z rows cols s w =
-    walked (rulesOf f z (isUpper rows cols) (s .tolerance) (s .absolute)) (s .limit) (s .credit) (card rows cols)
-    (bidiagonal f (s .floor) z (isUpper rows cols) (card rows cols) w)
+    walked (rulesFor f z rows cols s) (s .limit) (s .credit) (card rows cols) (formOf f z rows cols s w)
 
 unfoldable pub accepted : Format → Bool → ℕ → ℕ → Settings → Work → Outcome
 accepted f kept rows cols s w =

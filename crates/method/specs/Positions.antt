@@ -1,5 +1,6 @@
 -- Where the live corner's last 2 x 2 stands in the list: the positions that the drop helper of document 004 moves, and
--- that they are always those of the range, the corner whose top left is entry (k, k) for k = range - 2. Assumes nothing.
+-- that they are always those of the range, the corner whose top left is entry (k, k) for k = range - 2. Assumes
+-- nothing.
 use mathlib.Core.Path.{_≡_, refl, ap, _∙_}
 use mathlib.Core.Bool.{Bool, true, false}
 use Prim.Native.Nat.{ℕ, zero, suc, _+_, _-_, _*_, _≤_, _<_}
@@ -84,8 +85,8 @@ start-placed upper stride c = record { placed = λ h. refl }
 rows-two : (stride c : ℕ) → 2 ≤ c → c * stride ≡ (c - 2) * stride + 2 * stride
 rows-two stride c h = let e : c ≡ c - 2 + 2 = omega arith in ap (λ z. z * stride) e ∙ add-mul (c - 2) 2 stride
 
--- The Rust's start is the corner of c: in the upper form where the stride is c, as in a packed table with no more columns
--- than rows, and in the lower form for every stride.
+-- The Rust's start is the corner of c: in the upper form where the stride is c, as in a packed table with no more
+-- columns than rows, and in the lower form for every stride.
 pub begun-start :
     (upper : Bool) (stride c : ℕ) → 2 ≤ c → (upper ≡ true → stride ≡ c) →
     cornerBegun upper stride c ≡ cornerOf upper stride c
@@ -141,8 +142,8 @@ after-placed upper stride c (suc n) packed =
     let e : c - suc n ≡ c - n - 1 = omega arith in
     rw e (dropped-placed upper stride (c - n) (cornerAfter upper stride c n) (after-placed upper stride c n packed))
 
--- So in every walk over a diagonal of c entries the Rust's corner is that of the range: tally and counter are enough to go
--- on from.
+-- So in every walk over a diagonal of c entries the Rust's corner is that of the range: tally and counter are enough to
+-- go on from.
 pub walk-placed :
     {D : Type 0} (rules : Rules D) (limit credit c n : ℕ) (d : D) (upper : Bool) (stride : ℕ) →
     (upper ≡ true → stride ≡ c) →

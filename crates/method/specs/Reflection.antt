@@ -1,5 +1,6 @@
--- Reflections (document 006): how one is made of a run of entries, and what it does to a table from the right and from the left, sums in the
--- order written there. Definitions, the two cases of `reflectionOf`, and that lengths stay. Assumes nothing.
+-- Reflections (document 006): how one is made of a run of entries, and what it does to a table from the right and from
+-- the left, sums in the order written there. Definitions, the two cases of `reflectionOf`, and that lengths stay.
+-- Assumes nothing.
 use mathlib.Core.Path.{_≡_, refl, ap, _∙_}
 use mathlib.Core.Bool.{Bool, true, false}
 use mathlib.Core.List.{List}
@@ -9,12 +10,13 @@ use lib.Ieee.{Float, nan, Format, add, sub, mul, div, neg, lt}
 use Rattle.method.specs.Floats.{plusZero, one, pick, magnitude, signOf}
 use Rattle.method.specs.Root.{squareRoot}
 use Rattle.method.specs.Repeated.{repeated, repeated-keep}
+use Rattle.method.specs.Settings.{mostSize}
 
--- a scratch vector: 48 times +0
+-- a scratch vector: +0, for as many entries as a line can have
 abbrev pub blank : List Float
-blank = replicate 48 plusZero
+blank = replicate mostSize plusZero
 
-pub blank-length : (w : List Float) → w ≡ blank → length w ≡ 48
+pub blank-length : (w : List Float) → w ≡ blank → length w ≡ mostSize
 blank-length w e = ap length e
 
 -- ---- a line: n entries from `at` on, `step` apart
@@ -59,7 +61,8 @@ pub record Reflection : Type 0 where
 abbrev pub signedLength : Format → List Float → ℕ → Float
 signedLength f w n = mul f (signOf (getD w 0 nan)) (squareRoot f (squaresOf f w n))
 
--- from the largest magnitude, the scaled entries w and their signed length g: the head becomes -g * largest and the tail +0
+-- from the largest magnitude, the scaled entries w and their signed length g: the head becomes -g * largest and the
+-- tail +0
 abbrev pub reflectionBy : Format → List Float → ℕ → ℕ → Float → List Float → Float → Reflection
 reflectionBy f v at n largest w g =
     record {
@@ -68,7 +71,8 @@ reflectionBy f v at n largest w g =
       tau = div f (add f (getD w 0 nan) g) g;
     }
 
--- The reflection of the n entries of v from `at` on. Where their largest magnitude is below the floor: tau 0, and they stay as they are.
+-- The reflection of the n entries of v from `at` on. Where their largest magnitude is below the floor: tau 0, and they
+-- stay as they are.
 unfoldable pub reflectionOf : Format → Float → ℕ → ℕ → List Float → Reflection
 reflectionOf f floor at n v =
     elim (lt (largestOf v at n) floor) [
@@ -99,7 +103,8 @@ rowReflected f p tau off n a = rowLess f p (mul f (rowTimes f p off n a) tau) of
 
 -- the reflection of the `rows` rows from i on, in the `cols` columns from j on
 unfoldable pub reflectedRight : Format → List Float → Float → ℕ → ℕ → ℕ → ℕ → ℕ → List Float → List Float
-reflectedRight f p tau stride i j rows cols a = repeated 0 rows (λ k. rowReflected f p tau ((i + k) * stride + j) cols) a
+reflectedRight f p tau stride i j rows cols a =
+    repeated 0 rows (λ k. rowReflected f p tau ((i + k) * stride + j) cols) a
 
 -- ---- from the left: the rows' sum first, then each row less its share
 
@@ -109,7 +114,8 @@ rowAdded f a x off n w = repeated 0 n (λ l w. set w l (add f (getD w l nan) (mu
 
 -- w plus p[k] times row i + k, for k from 1 to rows - 1, in the `cols` columns from j on
 unfoldable pub rowsAdded : Format → List Float → List Float → ℕ → ℕ → ℕ → ℕ → ℕ → List Float → List Float
-rowsAdded f a p stride i j rows cols w = repeated 1 rows (λ k. rowAdded f a (getD p k nan) ((i + k) * stride + j) cols) w
+rowsAdded f a p stride i j rows cols w =
+    repeated 1 rows (λ k. rowAdded f a (getD p k nan) ((i + k) * stride + j) cols) w
 
 -- row i plus p[1] times row i + 1 plus .. plus p[rows - 1] times row i + rows - 1
 unfoldable pub columnSums : Format → List Float → ℕ → ℕ → ℕ → ℕ → ℕ → List Float → List Float
@@ -121,11 +127,13 @@ rowLessAll f w off n a = repeated 0 n (λ l a. set a (off + l) (sub f (getD a (o
 
 -- the row at `off`, less x times w
 unfoldable pub rowLessTimes : Format → List Float → Float → ℕ → ℕ → List Float → List Float
-rowLessTimes f w x off n a = repeated 0 n (λ l a. set a (off + l) (sub f (getD a (off + l) nan) (mul f x (getD w l nan)))) a
+rowLessTimes f w x off n a =
+    repeated 0 n (λ l a. set a (off + l) (sub f (getD a (off + l) nan) (mul f x (getD w l nan)))) a
 
 -- row i + k less p[k] times w, for k from 1 to rows - 1
 unfoldable pub lowerLess : Format → List Float → List Float → ℕ → ℕ → ℕ → ℕ → ℕ → List Float → List Float
-lowerLess f p w stride i j rows cols a = repeated 1 rows (λ k. rowLessTimes f w (getD p k nan) ((i + k) * stride + j) cols) a
+lowerLess f p w stride i j rows cols a =
+    repeated 1 rows (λ k. rowLessTimes f w (getD p k nan) ((i + k) * stride + j) cols) a
 
 -- row i less w, and the rows below it less their shares
 unfoldable pub rowsLess : Format → List Float → List Float → ℕ → ℕ → ℕ → ℕ → ℕ → List Float → List Float
@@ -133,7 +141,9 @@ rowsLess f p w stride i j rows cols a = lowerLess f p w stride i j rows cols (ro
 
 -- the reflection of the `rows` rows from i on, in the `cols` columns from j on
 unfoldable pub reflectedLeft : Format → List Float → Float → ℕ → ℕ → ℕ → ℕ → ℕ → List Float → List Float
-reflectedLeft f p tau stride i j rows cols a = rowsLess f p (timesFrom f tau 0 cols (columnSums f p stride i j rows cols a)) stride i j rows cols a
+reflectedLeft f p tau stride i j rows cols a =
+    let sums = columnSums f p stride i j rows cols a in
+    rowsLess f p (timesFrom f tau 0 cols sums) stride i j rows cols a
 
 -- ---- the cases of a reflection
 
@@ -145,7 +155,9 @@ pub widened-left : (m y x : Float) → lt m y ≡ false → y ≡ magnitude x �
 widened-left m y x h e = rw (← e, h)
 
 module _ (f : Format) (floor : Float) (at n : ℕ) (v : List Float) where
-  pub reflection-small : lt (largestOf v at n) floor ≡ true → record { entries = v; vector = set blank 0 one; tau = plusZero } ≡ reflectionOf f floor at n v
+  pub reflection-small :
+      lt (largestOf v at n) floor ≡ true →
+      record { entries = v; vector = set blank 0 one; tau = plusZero } ≡ reflectionOf f floor at n v
   unfolding reflectionOf
   reflection-small e = rw (e, reflectionOf)
 
@@ -173,7 +185,9 @@ module _ (f : Format) (floor : Float) (at n : ℕ) (v : List Float) where
 -- ---- lengths stay
 
 -- a loop of stores into the list
-stored : (lo : ℕ) (at : ℕ → ℕ) (x : ℕ → List Float → Float) (n : ℕ) (a : List Float) → length (repeated lo n (λ k a. set a (at k) (x k a)) a) ≡ length a
+stored :
+    (lo : ℕ) (at : ℕ → ℕ) (x : ℕ → List Float → Float) (n : ℕ) (a : List Float) →
+    length (repeated lo n (λ k a. set a (at k) (x k a)) a) ≡ length a
 stored lo at x n a = repeated-keep lo _ (λ (l : List Float). length l ≡ length a) (λ k l e. simp length-set e) n a refl
 
 pub lineCleared-length : (at step n : ℕ) (a : List Float) → length (lineCleared at step n a) ≡ length a
@@ -181,38 +195,48 @@ unfolding lineCleared
 lineCleared-length at step n a = stored 0 (λ k. at + k * step) (λ k a. plusZero) n a
 
 module _ (f : Format) where
-  pub scaled-length : (v : List Float) (at : ℕ) (x : Float) (n : ℕ) → length (scaled f v at x n) ≡ 48
-  unfolding scaled
-  scaled-length v at x n = stored 0 (λ k. k) (λ k w. mul f (getD v (at + k) nan) x) n blank
-
-  pub reflectionOf-entries : (floor : Float) (at n : ℕ) (v : List Float) → length (reflectionOf f floor at n v .entries) ≡ length v
+  pub reflectionOf-entries :
+      (floor : Float) (at n : ℕ) (v : List Float) → length (reflectionOf f floor at n v .entries) ≡ length v
   reflectionOf-entries floor at n v = go (lt (largestOf v at n) floor) refl
     where
       go : (b : Bool) → lt (largestOf v at n) floor ≡ b → length (reflectionOf f floor at n v .entries) ≡ length v
       go true e = rw (← reflection-small f floor at n v e) refl
-      go false e = rw (← reflection-large f floor at n v _ _ _ _ _ _ _ refl e refl refl refl refl refl refl) (simp length-set (lineCleared-length at 1 n v))
+      go false e =
+          rw (← reflection-large f floor at n v _ _ _ _ _ _ _ refl e refl refl refl refl refl refl)
+          (simp length-set (lineCleared-length at 1 n v))
 
-  pub rowLess-length : (p : List Float) (x : Float) (off n : ℕ) (a : List Float) → length (rowLess f p x off n a) ≡ length a
+  pub rowLess-length :
+      (p : List Float) (x : Float) (off n : ℕ) (a : List Float) → length (rowLess f p x off n a) ≡ length a
   unfolding rowLess tailLess
-  rowLess-length p x off n a = stored 1 (λ k. off + k) (λ k a. sub f (getD a (off + k) nan) (mul f x (getD p k nan))) n _ ∙ simp length-set
+  rowLess-length p x off n a =
+      stored 1 (λ k. off + k) (λ k a. sub f (getD a (off + k) nan) (mul f x (getD p k nan))) n _ ∙ simp length-set
 
-  pub rowReflected-length : (p : List Float) (tau : Float) (off n : ℕ) (a : List Float) → length (rowReflected f p tau off n a) ≡ length a
+  pub rowReflected-length :
+      (p : List Float) (tau : Float) (off n : ℕ) (a : List Float) → length (rowReflected f p tau off n a) ≡ length a
   unfolding rowReflected
   rowReflected-length p tau off n a = rowLess-length p _ off n a
 
-  pub reflectedRight-length : (p : List Float) (tau : Float) (stride i j rows cols : ℕ) (a : List Float) → length (reflectedRight f p tau stride i j rows cols a) ≡ length a
+  pub reflectedRight-length :
+      (p : List Float) (tau : Float) (stride i j rows cols : ℕ) (a : List Float) →
+      length (reflectedRight f p tau stride i j rows cols a) ≡ length a
   unfolding reflectedRight
-  reflectedRight-length p tau stride i j rows cols a = repeated-keep 0 _ (λ (l : List Float). length l ≡ length a) (λ k l e. rowReflected-length p tau ((i + k) * stride + j) cols l ∙ e) rows a refl
+  reflectedRight-length p tau stride i j rows cols a =
+      repeated-keep 0 _ (λ (l : List Float). length l ≡ length a)
+      (λ k l e. rowReflected-length p tau ((i + k) * stride + j) cols l ∙ e) rows a refl
 
   pub rowLessAll-length : (w : List Float) (off n : ℕ) (a : List Float) → length (rowLessAll f w off n a) ≡ length a
   unfolding rowLessAll
   rowLessAll-length w off n a = stored 0 (λ l. off + l) (λ l a. sub f (getD a (off + l) nan) (getD w l nan)) n a
 
-  pub rowLessTimes-length : (w : List Float) (x : Float) (off n : ℕ) (a : List Float) → length (rowLessTimes f w x off n a) ≡ length a
+  pub rowLessTimes-length :
+      (w : List Float) (x : Float) (off n : ℕ) (a : List Float) → length (rowLessTimes f w x off n a) ≡ length a
   unfolding rowLessTimes
-  rowLessTimes-length w x off n a = stored 0 (λ l. off + l) (λ l a. sub f (getD a (off + l) nan) (mul f x (getD w l nan))) n a
+  rowLessTimes-length w x off n a =
+      stored 0 (λ l. off + l) (λ l a. sub f (getD a (off + l) nan) (mul f x (getD w l nan))) n a
 
-  pub reflectedLeft-length : (p : List Float) (tau : Float) (stride i j rows cols : ℕ) (a : List Float) → length (reflectedLeft f p tau stride i j rows cols a) ≡ length a
+  pub reflectedLeft-length :
+      (p : List Float) (tau : Float) (stride i j rows cols : ℕ) (a : List Float) →
+      length (reflectedLeft f p tau stride i j rows cols a) ≡ length a
   unfolding reflectedLeft rowsLess lowerLess
   reflectedLeft-length p tau stride i j rows cols a =
       repeated-keep 1 _ (λ (l : List Float). length l ≡ length a)

@@ -1,5 +1,6 @@
--- A counted loop as a function: `repeated lo hi step s` is s after step was made for lo, lo + 1, .., hi - 1, in that order. Every loop of the method is
--- written so. Its laws are what the proofs of the code and of the lengths go by. Assumes nothing.
+-- A counted loop as a function: `repeated lo hi step s` is s after step was made for lo, lo + 1, .., hi - 1, in that
+-- order. Every loop of the method is written so. Its laws are what the proofs of the code and of the lengths go by.
+-- Assumes nothing.
 use mathlib.Core.Path.{_≡_, refl, sym}
 use Prim.Native.Nat.{ℕ, zero, suc, _+_, _-_, _≤_, zero-le}
 use native.Mathlib.Omega.{arith}
@@ -28,7 +29,8 @@ module _ {S : Type 0} (lo : ℕ) (step : ℕ → S → S) where
       rw (d, b, e)
 
   -- what each turn keeps, the whole loop keeps
-  pub repeated-keep : (P : S → Type 0) → ((k : ℕ) (s : S) → P s → P (step k s)) → (hi : ℕ) (s : S) → P s → P (repeated lo hi step s)
+  pub repeated-keep :
+      (P : S → Type 0) → ((k : ℕ) (s : S) → P s → P (step k s)) → (hi : ℕ) (s : S) → P s → P (repeated lo hi step s)
   unfolding repeated go
   repeated-keep P keeps hi s p = walk (hi - lo) where
     walk : (n : ℕ) → P (go lo step n s)
@@ -48,5 +50,6 @@ repeated-alike R lo step step′ both hi s s′ r = walk (hi - lo)
     walk (suc n) = both (lo + n) (go lo step n s) (go lo step′ n s′) (walk n)
 
 -- from 0 no side condition is left: a goal is rewritten by the bare name
-pub repeated-next : {S : Type 0} (step : ℕ → S → S) (k : ℕ) (s : S) → repeated 0 (k + 1) step s ≡ step k (repeated 0 k step s)
+pub repeated-next :
+    {S : Type 0} (step : ℕ → S → S) (k : ℕ) (s : S) → repeated 0 (k + 1) step s ≡ step k (repeated 0 k step s)
 repeated-next step k s = sym (repeated-more 0 step k s (repeated 0 k step s) zero-le refl)

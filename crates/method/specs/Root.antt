@@ -1,6 +1,7 @@
--- The square root of IEEE 754, rounded to the nearest value of a format. Definitions only.
--- A finite value x is `count f x` times the format's smallest value 2 ^ -low. With X for that number, the root of x is √(X * 2 ^ low) of the smallest values.
--- So a value r, of R smallest values, is below the root, at it or above it as R * R is below X * 2 ^ low, equal to it or above it.
+-- The square root of IEEE 754, rounded to the nearest value of a format. Definitions only. A finite value x is `count f
+-- x` times the format's smallest value 2 ^ -low. With X for that number, the root of x is √(X * 2 ^ low) of the
+-- smallest values. So a value r, of R smallest values, is below the root, at it or above it as R * R is below X * 2 ^
+-- low, equal to it or above it.
 pub mod Whole
 pub mod Grid
 pub mod Counts
@@ -38,7 +39,8 @@ unfoldable pub wholeRoot : ℕ → ℕ → ℕ
 wholeRoot zero n = 0
 wholeRoot (suc d) n = digit n (wholeRoot d (n / 4))
 
--- How many binary digits of √n the format drops. The whole part of √n has half as many as n, rounded up, and the format keeps `prec` of them.
+-- How many binary digits of √n the format drops. The whole part of √n has half as many as n, rounded up, and the format
+-- keeps `prec` of them.
 abbrev pub dropped : Format → ℕ → ℕ
 dropped f n = (size n + 1) / 2 - prec f
 
@@ -63,13 +65,18 @@ squareRoot f (fin false (suc m) e) = rooted f (square f (fin false (suc m) e))
 
 -- ---- what it is to be the nearest
 
--- r is a positive value of the format, and the root of x lies on r's side of the midpoint of r and any other value y of the format: above the midpoint for a y below r, and below it for a y above r.
--- The midpoint is half of R + Y, so its square is a quarter of (R + Y) * (R + Y). No tie occurs: both comparisons are strict.
+-- r is a positive value of the format, and the root of x lies on r's side of the midpoint of r and any other value y of
+-- the format: above the midpoint for a y below r, and below it for a y above r. The midpoint is half of R + Y, so its
+-- square is a quarter of (R + Y) * (R + Y). No tie occurs: both comparisons are strict.
 pub record Nearest (f : Format) (x r : Float) : Type 0 where
   pub held : T (fits f r)
   pub above-zero : T (positive r)
-  pub lower : (y : Float) → T (fits f y) → T (finite y) → count f y < count f r → (count f y + count f r) * (count f y + count f r) < 4 * square f x
-  pub upper : (y : Float) → T (fits f y) → T (finite y) → count f r < count f y → 4 * square f x < (count f r + count f y) * (count f r + count f y)
+  pub lower :
+      (y : Float) → T (fits f y) → T (finite y) → count f y < count f r →
+      (count f y + count f r) * (count f y + count f r) < 4 * square f x
+  pub upper :
+      (y : Float) → T (fits f y) → T (finite y) → count f r < count f y →
+      4 * square f x < (count f r + count f y) * (count f r + count f y)
 
 -- ---- the same by the two neighbours
 

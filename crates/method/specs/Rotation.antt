@@ -1,5 +1,5 @@
--- Rotations (document 005): the rule that makes one of two numbers, and what it does to two rows or two columns of a table. Definitions, the
--- rule's three cases one by one, and that lengths stay. Assumes nothing.
+-- Rotations (document 005): the rule that makes one of two numbers, and what it does to two rows or two columns of a
+-- table. Definitions, the rule's three cases one by one, and that lengths stay. Assumes nothing.
 use mathlib.Core.Path.{_≡_, refl, _∙_}
 use mathlib.Core.Bool.{true, false}
 use mathlib.Core.List.{List}
@@ -28,8 +28,8 @@ bySine f b ratio norm sine = record { radius = mul f b norm; cosine = mul f sine
 abbrev pub byCosine : Format → Float → Float → Float → Float → Rotation
 byCosine f a ratio norm cosine = record { radius = mul f a norm; cosine = cosine; sine = mul f cosine ratio }
 
--- The rotation that takes (a, b) to (radius, 0). a = 0 gives (b, 0, 1), even for b = 0. The ratio is of the smaller magnitude to the larger; where
--- neither is larger, of b to a.
+-- The rotation that takes (a, b) to (radius, 0). a = 0 gives (b, 0, 1), even for b = 0. The ratio is of the smaller
+-- magnitude to the larger; where neither is larger, of b to a.
 unfoldable pub rotationOf : Format → Float → Float → Rotation
 rotationOf f a b =
     elim (eq a plusZero) [
@@ -53,7 +53,8 @@ rowsTurned f g stride i j n a = repeated 0 n (λ k. pairTurned f g (i * stride +
 
 -- columns i and i + 1 turned, in the n rows from j on: again i counts lines, so the entries are (j + k, i), row first
 unfoldable pub columnsTurned : Format → Rotation → ℕ → ℕ → ℕ → ℕ → List Float → List Float
-columnsTurned f g stride i j n a = repeated 0 n (λ k. pairTurned f g ((j + k) * stride + i) ((j + k) * stride + (i + 1))) a
+columnsTurned f g stride i j n a =
+    repeated 0 n (λ k. pairTurned f g ((j + k) * stride + i) ((j + k) * stride + (i + 1))) a
 
 -- ---- the rule's cases
 
@@ -92,9 +93,11 @@ module _ (f : Format) (g : Rotation) where
   pub rowsTurned-length : (stride i j n : ℕ) (a : List Float) → length (rowsTurned f g stride i j n a) ≡ length a
   unfolding rowsTurned
   rowsTurned-length stride i j n a =
-      repeated-keep 0 _ (λ (l : List Float). length l ≡ length a) (λ k l e. pairTurned-length (i * stride + (j + k)) ((i + 1) * stride + (j + k)) l ∙ e) n a refl
+      repeated-keep 0 _ (λ (l : List Float). length l ≡ length a)
+      (λ k l e. pairTurned-length (i * stride + (j + k)) ((i + 1) * stride + (j + k)) l ∙ e) n a refl
 
   pub columnsTurned-length : (stride i j n : ℕ) (a : List Float) → length (columnsTurned f g stride i j n a) ≡ length a
   unfolding columnsTurned
   columnsTurned-length stride i j n a =
-      repeated-keep 0 _ (λ (l : List Float). length l ≡ length a) (λ k l e. pairTurned-length ((j + k) * stride + i) ((j + k) * stride + (i + 1)) l ∙ e) n a refl
+      repeated-keep 0 _ (λ (l : List Float). length l ≡ length a)
+      (λ k l e. pairTurned-length ((j + k) * stride + i) ((j + k) * stride + (i + 1)) l ∙ e) n a refl

@@ -18,6 +18,10 @@ pub record Settings : Type 0 where
 abbrev pub mostSize : ℕ
 mostSize = 48
 
+-- the most entries from one row's start to the next
+abbrev pub mostStride : ℕ
+mostStride = 64
+
 -- the greatest limit and the greatest credit
 abbrev pub mostLimit : ℕ
 mostLimit = 100000

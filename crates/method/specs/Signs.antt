@@ -1,5 +1,6 @@
--- Signs (document 005): that the Rust's `apply_gt_right`, which calls `apply_g_right` with the sine negated, turns two columns as Rotation defines it,
--- for every float and both formats. Laws of the negative of a float, and the two ways of turning side by side. Assumes nothing.
+-- Signs (document 005): that the Rust's `apply_gt_right`, which calls `apply_g_right` with the sine negated, turns two
+-- columns as Rotation defines it, for every float and both formats. Laws of the negative of a float, and the two ways
+-- of turning side by side. Assumes nothing.
 use mathlib.Core.Path.{_≡_, refl, ap, _∙_}
 use mathlib.Core.Bool.{Bool, true, false, not, cond, Bool·not-not}
 use mathlib.Core.List.{List}
@@ -30,7 +31,10 @@ units-neg : (f : Format) (s : Bool) (q k : ℕ) → units f (not s) q k ≡ neg 
 unfolding units neg
 units-neg f s q k = go (ltb (q * 2 ^ k) (2 ^ (low f + suc (emax f))))
   where
-    go : (b : Bool) → cond b (odd (suc (prec f)) (not s) q k (low f)) (inf (not s)) ≡ neg (cond b (odd (suc (prec f)) s q k (low f)) (inf s))
+    go :
+        (b : Bool) →
+        cond b (odd (suc (prec f)) (not s) q k (low f)) (inf (not s)) ≡
+        neg (cond b (odd (suc (prec f)) s q k (low f)) (inf s))
     go true = odd-neg (suc (prec f)) s q k (low f)
     go false = refl
 
@@ -61,7 +65,8 @@ mul-neg-left f (inf s) (inf t) = rw unlike-not
 mul-neg-left f (inf s) (fin t n d) = infinite-neg (eqb n 0) s t
 mul-neg-left f (fin s m e) nan = refl
 mul-neg-left f (fin s m e) (inf t) = infinite-neg (eqb m 0) s t
-mul-neg-left f (fin s m e) (fin t n d) = rw unlike-not (round-neg f (unlike s t) (m * up e * (n * up d)) (down e * down d))
+mul-neg-left f (fin s m e) (fin t n d) =
+    rw unlike-not (round-neg f (unlike s t) (m * up e * (n * up d)) (down e * down d))
 
 -- to take away the negative is to add
 pub sub-neg : (f : Format) (x y : Float) → sub f x (neg y) ≡ add f x y
@@ -70,7 +75,8 @@ sub-neg f x y = rw neg-neg
 
 -- ---- columns turned as the Rust has it
 
--- entries p and q turned as the Rust's apply_g_right has it, called with the sine negated: new p is c * p - (-s) * q, new q is (-s) * p + c * q
+-- entries p and q turned as the Rust's apply_g_right has it, called with the sine negated: new p is c * p - (-s) * q,
+-- new q is (-s) * p + c * q
 unfoldable pub pairTurnedBack : Format → Rotation → ℕ → ℕ → List Float → List Float
 pairTurnedBack f g p q a =
     set (set a p (sub f (mul f (g .cosine) (getD a p nan)) (mul f (neg (g .sine)) (getD a q nan)))) q
@@ -78,19 +84,25 @@ pairTurnedBack f g p q a =
 
 -- columns i and i + 1 so turned, in the n rows from j on
 unfoldable pub columnsTurnedBack : Format → Rotation → ℕ → ℕ → ℕ → ℕ → List Float → List Float
-columnsTurnedBack f g stride i j n a = repeated 0 n (λ k. pairTurnedBack f g ((j + k) * stride + i) ((j + k) * stride + (i + 1))) a
+columnsTurnedBack f g stride i j n a =
+    repeated 0 n (λ k. pairTurnedBack f g ((j + k) * stride + i) ((j + k) * stride + (i + 1))) a
 
 -- two entries so turned are turned as Rotation has it
-pub pairTurned-back : (f : Format) (g : Rotation) (p q : ℕ) (a : List Float) → pairTurnedBack f g p q a ≡ pairTurned f g p q a
+pub pairTurned-back :
+    (f : Format) (g : Rotation) (p q : ℕ) (a : List Float) → pairTurnedBack f g p q a ≡ pairTurned f g p q a
 unfolding pairTurnedBack pairTurned
 pairTurned-back f g p q a = rw (mul-neg-left f (g .sine) (getD a q nan), sub-neg)
 
 -- two columns so turned are turned as Rotation has it
-pub columnsTurned-back : (f : Format) (g : Rotation) (stride i j n : ℕ) (a : List Float) → columnsTurnedBack f g stride i j n a ≡ columnsTurned f g stride i j n a
+pub columnsTurned-back :
+    (f : Format) (g : Rotation) (stride i j n : ℕ) (a : List Float) →
+    columnsTurnedBack f g stride i j n a ≡ columnsTurned f g stride i j n a
 unfolding columnsTurnedBack columnsTurned
 columnsTurned-back f g stride i j n a =
     repeated-alike (λ (l l′ : List Float). l ≡ l′) 0 _ _
-    (λ k l l′ e. pairTurned-back f g ((j + k) * stride + i) ((j + k) * stride + (i + 1)) l ∙ ap (pairTurned f g ((j + k) * stride + i) ((j + k) * stride + (i + 1))) e)
+    (λ k l l′ e.
+    pairTurned-back f g ((j + k) * stride + i) ((j + k) * stride + (i + 1)) l
+    ∙ ap (pairTurned f g ((j + k) * stride + i) ((j + k) * stride + (i + 1))) e)
     n
     a
     a

@@ -1,11 +1,13 @@
--- The walk (document 000's loop): while the range is above 1 and the counter below the limit, one pass. A pass drops the last coupling where it is
--- negligible, and sweeps the live corner where it is not. Nothing here says what the data are, when a coupling is negligible, or what a sweep does:
--- those are `Rules`, so that what is true of the walk is said once, for every number type. Definitions only.
+-- The walk (document 000's loop): while the range is above 1 and the counter below the limit, one pass. A pass drops
+-- the last coupling where it is negligible, and sweeps the live corner where it is not. Nothing here says what the data
+-- are, when a coupling is negligible, or what a sweep does: those are `Rules`, so that what is true of the walk is said
+-- once, for every number type. Definitions only.
 pub mod Run
 pub mod Counts
 pub mod Limits
 pub mod Alike
 pub mod Loop
+pub mod Applied
 use Prim.Native.Nat.{ℕ, zero, suc, _+_, _-_, _*_}
 use mathlib.Core.Bool.{Bool, true, false, _&&_}
 use lib.Dec.{ltb}

@@ -1,5 +1,5 @@
--- The first of a list of checks that fails: of one list before another, and, where each check has its meaning, which number is given when. Numbers need not
--- rise along a list. Assumes nothing.
+-- The first of a list of checks that fails: of one list before another, and, where each check has its meaning, which
+-- number is given when. Numbers need not rise along a list. Assumes nothing.
 use mathlib.Core.Path.{_≡_, refl, sym, _∙_}
 use mathlib.Core.Logic.{_↔_, _⊎_, inl, inr, ⊎-elim}
 use mathlib.Core.Bool.{Bool, true, false, not, _&&_}
@@ -50,7 +50,9 @@ first-join (c ∷ xs) ys e = go (c .fails) refl (first-join xs ys (n .1))
     n : (0 < c .number) × (numbered xs ≡ true)
     n = both (less 0 (c .number)) (holds (numbered xs)) .0 e
 
-    go : (b : Bool) → c .fails ≡ b → firstOf (xs ++ ys) ≡ orElse (firstOf xs) (firstOf ys) → firstOf (c ∷ (xs ++ ys)) ≡ orElse (firstOf (c ∷ xs)) (firstOf ys)
+    go :
+        (b : Bool) → c .fails ≡ b → firstOf (xs ++ ys) ≡ orElse (firstOf xs) (firstOf ys) →
+        firstOf (c ∷ (xs ++ ys)) ≡ orElse (firstOf (c ∷ xs)) (firstOf ys)
     go true t ih =
         let h = first-hit c xs t in
         rw (first-hit c (xs ++ ys) t, h, ne-eqb (c .number) 0 (λ z. omega (arith, n .0)), orElse) (sym h)
@@ -79,10 +81,13 @@ means n A = record { number = n; when = A }
 infixr 3 _⨾_
 pub data Means : List Check → List Meaning → Type 1 where
   done : Means [] []
-  _⨾_ : {n p : ℕ} {t : Bool} {A : Type 0} {cs : List Check} {ms : List Meaning} → Says t A → Means cs ms → Means (placed n t p ∷ cs) (means n A ∷ ms)
+  _⨾_ :
+      {n p : ℕ} {t : Bool} {A : Type 0} {cs : List Check} {ms : List Meaning} → Says t A → Means cs ms →
+      Means (placed n t p ∷ cs) (means n A ∷ ms)
 
 -- of one list after another, too
-pub means-join : {cs cs′ : List Check} {ms ms′ : List Meaning} → Means cs ms → Means cs′ ms′ → Means (cs ++ cs′) (ms ++ ms′)
+pub means-join :
+    {cs cs′ : List Check} {ms ms′ : List Meaning} → Means cs ms → Means cs′ ms′ → Means (cs ++ cs′) (ms ++ ms′)
 means-join done t = t
 means-join (s ⨾ ss) t = s ⨾ means-join ss t
 
@@ -97,7 +102,9 @@ unfolding firstOf
 first-means done k = (sym, sym)
 first-means (_⨾_ {n} {p} {t} {A} {cs} {ms} s ss) k = go t refl (first-means ss k)
   where
-    go : (b : Bool) → t ≡ b → (firstOf cs .number ≡ k) ↔ First k ms → (firstOf (placed n t p ∷ cs) .number ≡ k) ↔ ((A × (k ≡ n)) ⊎ ((¬ A) × First k ms))
+    go :
+        (b : Bool) → t ≡ b → (firstOf cs .number ≡ k) ↔ First k ms →
+        (firstOf (placed n t p ∷ cs) .number ≡ k) ↔ ((A × (k ≡ n)) ⊎ ((¬ A) × First k ms))
     go true e ih = (
       λ q. inl (s .0 e, sym (rw (first-hit (placed n t p) cs e) at q)),
       ⊎-elim (λ x. rw (first-hit (placed n t p) cs e) (sym (x .1))) (λ x. absurd (x .0 (s .0 e))),
@@ -115,10 +122,13 @@ None (m ∷ ms) = (¬ m .when) × None ms
 -- that is so of one list after another when it is so of both
 pub none-join : (xs ys : List Meaning) → None (xs ++ ys) ↔ (None xs × None ys)
 none-join [] ys = (λ x. (tt, x), λ x. x .1)
-none-join (m ∷ xs) ys = let ih = none-join xs ys in (λ x. let y = ih .0 (x .1) in ((x .0, y .0), y .1), λ x. (x .0 .0, ih .1 (x .0 .1, x .1)))
+none-join (m ∷ xs) ys =
+    let ih = none-join xs ys in
+    (λ x. let y = ih .0 (x .1) in ((x .0, y .0), y .1), λ x. (x .0 .0, ih .1 (x .0 .1, x .1)))
 
 -- nothing is refused exactly when none of the conditions holds
-pub none-refused : {cs : List Check} {ms : List Meaning} → Means cs ms → numbered cs ≡ true → (firstOf cs .number ≡ 0) ↔ None ms
+pub none-refused :
+    {cs : List Check} {ms : List Meaning} → Means cs ms → numbered cs ≡ true → (firstOf cs .number ≡ 0) ↔ None ms
 unfolding firstOf
 none-refused done e = (λ q. tt, λ x. refl)
 none-refused (_⨾_ {n} {p} {t} {A} {cs} {ms} s ss) e = go t refl (none-refused ss (low .1))
@@ -126,12 +136,17 @@ none-refused (_⨾_ {n} {p} {t} {A} {cs} {ms} s ss) e = go t refl (none-refused 
     low : (0 < n) × (numbered cs ≡ true)
     low = both (less 0 n) (holds (numbered cs)) .0 e
 
-    go : (b : Bool) → t ≡ b → (firstOf cs .number ≡ 0) ↔ None ms → (firstOf (placed n t p ∷ cs) .number ≡ 0) ↔ ((¬ A) × None ms)
+    go :
+        (b : Bool) → t ≡ b → (firstOf cs .number ≡ 0) ↔ None ms →
+        (firstOf (placed n t p ∷ cs) .number ≡ 0) ↔ ((¬ A) × None ms)
     go true f ih = (
       λ q. absurd (omega (arith, low .0, rw (first-hit (placed n t p) cs f) at q)),
       λ x. absurd (x .0 (s .0 f)),
     )
-    go false f ih = (λ q. (denies s f, ih .0 (rw (first-miss (placed n t p) cs f) at q)), λ x. rw (first-miss (placed n t p) cs f) (ih .1 (x .1)))
+    go false f ih = (
+      λ q. (denies s f, ih .0 (rw (first-miss (placed n t p) cs f) at q)),
+      λ x. rw (first-miss (placed n t p) cs f) (ih .1 (x .1)),
+    )
 
 -- a number is given where its condition holds and none before it does
 pub given : (xs : List Meaning) (n : ℕ) (A : Type 0) (ys : List Meaning) → A → None xs → First n (xs ++ means n A ∷ ys)
@@ -162,7 +177,8 @@ first-below n (c ∷ cs) e = go (c .fails) refl (first-below n cs (h .1))
     go true t ih = rw (first-hit c cs t) (h .0)
     go false t ih = rw (first-miss c cs t) ih
 
-pub first-placeless : (n : ℕ) (cs : List Check) → 0 < n → placeless n cs ≡ true → (firstOf cs .place ≡ 0) × (¬ (firstOf cs .number ≡ n))
+pub first-placeless :
+    (n : ℕ) (cs : List Check) → 0 < n → placeless n cs ≡ true → (firstOf cs .place ≡ 0) × (¬ (firstOf cs .number ≡ n))
 unfolding firstOf
 first-placeless n [] some e = (refl, λ z. omega arith)
 first-placeless n (c ∷ cs) some e = go (c .fails) refl (first-placeless n cs some (h .1))
@@ -170,6 +186,8 @@ first-placeless n (c ∷ cs) some e = go (c .fails) refl (first-placeless n cs s
     h : ((c .place ≡ 0) × (¬ (c .number ≡ n))) × (placeless n cs ≡ true)
     h = both (both (same (c .place) 0) (nor (same (c .number) n))) (holds (placeless n cs)) .0 e
 
-    go : (b : Bool) → c .fails ≡ b → (firstOf cs .place ≡ 0) × (¬ (firstOf cs .number ≡ n)) → (firstOf (c ∷ cs) .place ≡ 0) × (¬ (firstOf (c ∷ cs) .number ≡ n))
+    go :
+        (b : Bool) → c .fails ≡ b → (firstOf cs .place ≡ 0) × (¬ (firstOf cs .number ≡ n)) →
+        (firstOf (c ∷ cs) .place ≡ 0) × (¬ (firstOf (c ∷ cs) .number ≡ n))
     go true t ih = rw (first-hit c cs t) (h .0)
     go false t ih = rw (first-miss c cs t) ih

@@ -13,7 +13,8 @@ use borrow.Author.Tests.{ltb-true, ltb-false, lt-ltb}
 use Rattle.method.specs.Checks.{firstBad}
 use Rattle.method.specs.Checks.Tests.{Says}
 
--- where a search for a reading that is infinite or NaN stands when it ends: all before are finite, and the one there, if any, is not
+-- where a search for a reading that is infinite or NaN stands when it ends: all before are finite, and the one there,
+-- if any, is not
 pub record Searched (xs : List Float) (n : ℕ) : Type 0 where
   pub most : n ≤ length xs
   pub before : (k : ℕ) → k < n → finite (getD xs k nan) ≡ true
@@ -22,7 +23,8 @@ pub record Searched (xs : List Float) (n : ℕ) : Type 0 where
 -- `firstBad` is where the search ends
 pub firstBad-searched : (xs : List Float) → Searched xs (firstBad xs)
 unfolding firstBad
-firstBad-searched [] = record { most = omega arith; before = λ k h. absurd (not-suc-le-zero h); bad = λ h. absurd (not-suc-le-zero h) }
+firstBad-searched [] =
+    record { most = omega arith; before = λ k h. absurd (not-suc-le-zero h); bad = λ h. absurd (not-suc-le-zero h) }
 firstBad-searched (x ∷ xs) = go (finite x) refl (firstBad-searched xs)
   where
     go : (b : Bool) → finite x ≡ b → Searched xs (firstBad xs) → Searched (x ∷ xs) (firstBad (x ∷ xs))
@@ -37,7 +39,8 @@ firstBad-searched (x ∷ xs) = go (finite x) refl (firstBad-searched xs)
         walk : (k : ℕ) → k < suc (firstBad xs) → finite (getD (x ∷ xs) k nan) ≡ true
         walk zero h = t
         walk (suc k) h = s .before k (le-of-suc-le-suc h)
-    go false t s = rw (t, firstBad) record { most = omega arith; before = λ k h. absurd (not-suc-le-zero h); bad = λ h. t }
+    go false t s =
+        rw (t, firstBad) record { most = omega arith; before = λ k h. absurd (not-suc-le-zero h); bad = λ h. t }
 
 -- `firstBad` is below or at every bad reading
 firstBad-least : (xs : List Float) (n : ℕ) → finite (getD xs n nan) ≡ false → firstBad xs ≤ n
@@ -48,7 +51,10 @@ firstBad-least xs n e = go (ltb n (firstBad xs)) refl
     go false t = ltb-false n (firstBad xs) t
 
 -- a reading that is not finite, with finite ones before it, is the first bad one
-pub firstBad-at : (xs : List Float) (n : ℕ) → ((k : ℕ) → k < n → finite (getD xs k nan) ≡ true) → n < length xs → finite (getD xs n nan) ≡ false → firstBad xs ≡ n
+pub firstBad-at :
+    (xs : List Float) (n : ℕ) → ((k : ℕ) → k < n → finite (getD xs k nan) ≡ true) → n < length xs →
+    finite (getD xs n nan) ≡ false →
+    firstBad xs ≡ n
 firstBad-at xs n before h e = go (ltb (firstBad xs) n) refl
   where
     go : (b : Bool) → ltb (firstBad xs) n ≡ b → firstBad xs ≡ n
@@ -58,7 +64,8 @@ firstBad-at xs n before h e = go (ltb (firstBad xs) n) refl
     go false t = omega (arith, ltb-false (firstBad xs) n t, firstBad-least xs n e)
 
 -- where every reading is finite, `firstBad` is their count
-pub firstBad-none : (xs : List Float) → ((k : ℕ) → k < length xs → finite (getD xs k nan) ≡ true) → firstBad xs ≡ length xs
+pub firstBad-none :
+    (xs : List Float) → ((k : ℕ) → k < length xs → finite (getD xs k nan) ≡ true) → firstBad xs ≡ length xs
 firstBad-none xs all = go (ltb (firstBad xs) (length xs)) refl
   where
     go : (b : Bool) → ltb (firstBad xs) (length xs) ≡ b → firstBad xs ≡ length xs
@@ -76,11 +83,14 @@ pub record BadReading (xs : List Float) : Type 0 where
 -- the test for it says that there is a bad reading
 pub bad-reading : (xs : List Float) → Says (ltb (firstBad xs) (length xs)) (BadReading xs)
 bad-reading xs = (
-  λ e. let i = ltb-true (firstBad xs) (length xs) e in record { at = firstBad xs; inside = i; bad = firstBad-searched xs .bad i },
+  λ e.
+      let i = ltb-true (firstBad xs) (length xs) e in
+      record { at = firstBad xs; inside = i; bad = firstBad-searched xs .bad i },
   λ x. lt-ltb (firstBad xs) (length xs) (omega (arith, firstBad-least xs (x .at) (x .bad), x .inside)),
 )
 
--- place n is that of the first bad reading: it is inside, the reading there is not finite, and every reading before it is
+-- place n is that of the first bad reading: it is inside, the reading there is not finite, and every reading before it
+-- is
 pub record FirstBadAt (xs : List Float) (n : ℕ) : Type 0 where
   pub inside : n < length xs
   pub bad : finite (getD xs n nan) ≡ false

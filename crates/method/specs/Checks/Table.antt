@@ -1,5 +1,5 @@
--- 01's table of numbers as theorems: what each number means, that the answer is the first of the list that applies and 0 where none does, the place that 8
--- carries, and what an acceptance tells. Assumes nothing.
+-- 01's table of numbers as theorems: what each number means, that the answer is the first of the list that applies and
+-- 0 where none does, the place that 8 carries, and what an acceptance tells. Assumes nothing.
 use mathlib.Core.Path.{_≡_, refl}
 use mathlib.Core.Logic.{_↔_, _⊎_, inl, inr}
 use mathlib.Core.Bool.{Bool, true, false}
@@ -14,9 +14,12 @@ use lib.Dec.{ltb, eqb}
 use Rattle.method.specs.Floats.{plusZero}
 use Rattle.method.specs.Work.{Work}
 use Rattle.method.specs.Settings.{Settings, mostSize, mostLimit, mostCredit}
-use Rattle.method.specs.Checks.{Check, placed, Refusal, firstOf, firstBad, boundFit, floorFit, sizeChecks, lengthChecks, settingChecks, readingChecks, checks, refusalOf}
+use Rattle.method.specs.Checks.{Check, placed, Refusal, firstOf, firstBad, boundFit, floorFit, sizeChecks}
+use Rattle.method.specs.Checks.{lengthChecks, settingChecks, readingChecks, checks, refusalOf}
 use Rattle.method.specs.Checks.Tests.{less, same, holds, lacks, nor, either, both, notAll, some, few, equal}
-use Rattle.method.specs.Checks.First.{first-here, first-beyond, first-hit, first-miss, first-none, Meaning, means, Means, done, _⨾_, means-join, First, first-means, None, none-join, none-refused, given, first-below, first-placeless}
+use Rattle.method.specs.Checks.First.{first-here, first-beyond, first-hit, first-miss, first-none, Meaning, means}
+use Rattle.method.specs.Checks.First.{Means, done, _⨾_, means-join, First, first-means, None, none-join}
+use Rattle.method.specs.Checks.First.{none-refused, given, first-below, first-placeless}
 use Rattle.method.specs.Checks.Readings.{firstBad-searched, BadReading, bad-reading, FirstBadAt}
 
 -- ---- the conditions
@@ -82,7 +85,8 @@ abbrev pub readingMeanings : List Float → List Meaning
 readingMeanings b = means 8 (BadReading b) ∷ []
 
 abbrev pub meanings : Bool → ℕ → ℕ → Settings → Work → List Meaning
-meanings kept rows cols s w = sizeMeanings rows cols ++ lengthMeanings kept rows cols w ++ settingMeanings s ++ readingMeanings (w .matrix)
+meanings kept rows cols s w =
+    sizeMeanings rows cols ++ lengthMeanings kept rows cols w ++ settingMeanings s ++ readingMeanings (w .matrix)
 
 -- none of the conditions holds, segment by segment
 pub record Clear (kept : Bool) (rows cols : ℕ) (s : Settings) (w : Work) : Type 0 where
@@ -103,7 +107,8 @@ size-tests rows cols =
     ⨾ either (less mostSize rows) (less mostSize cols)
     ⨾ done
 
-length-tests : (kept : Bool) (rows cols : ℕ) (w : Work) → Means (lengthChecks kept rows cols w) (lengthMeanings kept rows cols w)
+length-tests :
+    (kept : Bool) (rows cols : ℕ) (w : Work) → Means (lengthChecks kept rows cols w) (lengthMeanings kept rows cols w)
 length-tests kept rows cols w =
     nor (same (length (w .matrix)) (rows * cols))
     ⨾ both (holds kept) (nor (same (length (w .u)) (rows * rows)))
@@ -120,40 +125,49 @@ reading-tests : (b : List Float) → Means (readingChecks b) (readingMeanings b)
 reading-tests b = bad-reading b ⨾ done
 
 -- sizes that are not refused are small
-pub sizes-passed : (rows cols : ℕ) {r : Refusal} → r ≡ firstOf (sizeChecks rows cols) → r .number ≡ 0 → (rows ≤ mostSize) × (cols ≤ mostSize)
+pub sizes-passed :
+    (rows cols : ℕ) {r : Refusal} → r ≡ firstOf (sizeChecks rows cols) → r .number ≡ 0 →
+    (rows ≤ mostSize) × (cols ≤ mostSize)
 sizes-passed rows cols e z =
     let n = none-refused (size-tests rows cols) refl .0 (rw e at z) in
     (few mostSize rows (λ l. n .1 .0 (inl l)), few mostSize cols (λ l. n .1 .0 (inr l)))
 
 -- where no length is refused, the matrix has its own
 pub lengths-passed :
-    (kept : Bool) (rows cols : ℕ) (w : Work) {r : Refusal} → r ≡ firstOf (lengthChecks kept rows cols w) → r .number ≡ 0 → length (w .matrix) ≡ rows * cols
-lengths-passed kept rows cols w e z = equal (length (w .matrix)) (rows * cols) (none-refused (length-tests kept rows cols w) refl .0 (rw e at z) .0)
+    (kept : Bool) (rows cols : ℕ) (w : Work) {r : Refusal} → r ≡ firstOf (lengthChecks kept rows cols w) →
+    r .number ≡ 0 →
+    length (w .matrix) ≡ rows * cols
+lengths-passed kept rows cols w e z =
+    equal (length (w .matrix)) (rows * cols) (none-refused (length-tests kept rows cols w) refl .0 (rw e at z) .0)
 
 module _ (kept : Bool) (rows cols : ℕ) (s : Settings) (w : Work) where
   tests : Means (checks kept rows cols s w) (meanings kept rows cols s w)
-  tests = means-join (size-tests rows cols) (means-join (length-tests kept rows cols w) (means-join (setting-tests s) (reading-tests (w .matrix))))
+  tests =
+      means-join (size-tests rows cols)
+      (means-join (length-tests kept rows cols w) (means-join (setting-tests s) (reading-tests (w .matrix))))
 
-  -- The number that a call answers is k exactly when k is the number of the first condition that holds, or when k is 0 and none holds.
+  -- The number that a call answers is k exactly when k is the number of the first condition that holds, or when k is 0
+  -- and none holds.
   pub numbers : (k : ℕ) → (refusalOf kept rows cols s w .number ≡ k) ↔ First k (meanings kept rows cols s w)
   numbers k = first-means tests k
 
   -- nothing is refused exactly when none of the conditions holds
   pub clear : (refusalOf kept rows cols s w .number ≡ 0) ↔ Clear kept rows cols s w
-  clear = (
-    λ e.
-        let p = none-join (sizeMeanings rows cols) (lengthMeanings kept rows cols w ++ settingMeanings s ++ readingMeanings (w .matrix)) .0 (none-refused tests refl .0 e) in
-        let q = none-join (lengthMeanings kept rows cols w) (settingMeanings s ++ readingMeanings (w .matrix)) .0 (p .1) in
-        let r = none-join (settingMeanings s) (readingMeanings (w .matrix)) .0 (q .1) in
-        record { sizes = p .0; lengths = q .0; settings = r .0; readings = r .1 },
-    λ c.
-        none-refused tests refl .1
-        (none-join (sizeMeanings rows cols) (lengthMeanings kept rows cols w ++ settingMeanings s ++ readingMeanings (w .matrix)) .1 (
-          c .sizes,
-          none-join (lengthMeanings kept rows cols w) (settingMeanings s ++ readingMeanings (w .matrix)) .1
-              (c .lengths, none-join (settingMeanings s) (readingMeanings (w .matrix)) .1 (c .settings, c .readings)),
-        )),
-  )
+  clear =
+      let sizes = sizeMeanings rows cols in
+      let lengths = lengthMeanings kept rows cols w in
+      let settings = settingMeanings s in
+      let readings = readingMeanings (w .matrix) in (
+        λ e.
+            let p = none-join sizes (lengths ++ settings ++ readings) .0 (none-refused tests refl .0 e) in
+            let q = none-join lengths (settings ++ readings) .0 (p .1) in
+            let r = none-join settings readings .0 (q .1) in
+            record { sizes = p .0; lengths = q .0; settings = r .0; readings = r .1 },
+        λ c.
+            let r = none-join settings readings .1 (c .settings, c .readings) in
+            let q = none-join lengths (settings ++ readings) .1 (c .lengths, r) in
+            none-refused tests refl .1 (none-join sizes (lengths ++ settings ++ readings) .1 (c .sizes, q)),
+      )
 
   -- a bad reading is refused by 8 where sizes, lengths and settings are fit
   pub eight-given :
@@ -164,7 +178,8 @@ module _ (kept : Bool) (rows cols : ℕ) (s : Settings) (w : Work) where
       refusalOf kept rows cols s w .number ≡ 8
   eight-given a b c x =
       numbers 8 .1
-      (given (sizeMeanings rows cols ++ lengthMeanings kept rows cols w ++ settingMeanings s) 8 (BadReading (w .matrix)) [] x
+      (given (sizeMeanings rows cols ++ lengthMeanings kept rows cols w ++ settingMeanings s) 8 (BadReading (w .matrix))
+      [] x
       (none-join (sizeMeanings rows cols) (lengthMeanings kept rows cols w ++ settingMeanings s) .1
       (a, none-join (lengthMeanings kept rows cols w) (settingMeanings s) .1 (b, c))))
 
@@ -185,21 +200,33 @@ module _ (kept : Bool) (rows cols : ℕ) (s : Settings) (w : Work) where
       reading : Check
       reading = placed 8 (ltb (firstBad (w .matrix)) (length (w .matrix))) (firstBad (w .matrix))
 
-      go : (b : Bool) → ltb (firstBad (w .matrix)) (length (w .matrix)) ≡ b → Place (firstOf (readingChecks (w .matrix)))
+      go :
+          (b : Bool) → ltb (firstBad (w .matrix)) (length (w .matrix)) ≡ b → Place (firstOf (readingChecks (w .matrix)))
       go true t =
           let i = ltb-true (firstBad (w .matrix)) (length (w .matrix)) t in
           rw (first-hit reading [] t)
           record {
-            eight = λ e. record { inside = i; bad = firstBad-searched (w .matrix) .bad i; before = firstBad-searched (w .matrix) .before };
+            eight =
+                λ e.
+                record {
+                  inside = i;
+                  bad = firstBad-searched (w .matrix) .bad i;
+                  before = firstBad-searched (w .matrix) .before;
+                };
             other = λ h. absurd (h refl);
           }
-      go false t = rw (first-miss reading [] t, first-none) record { eight = λ e. absurd (omega (arith, e)); other = λ h. refl }
+      go false t =
+          rw (first-miss reading [] t, first-none) record { eight = λ e. absurd (omega (arith, e)); other = λ h. refl }
 
   pub place : Place (refusalOf kept rows cols s w)
   place = go (eqb (firstOf (before kept rows cols s w) .number) 0) refl
     where
       go : (b : Bool) → eqb (firstOf (before kept rows cols s w) .number) 0 ≡ b → Place (refusalOf kept rows cols s w)
-      go true e = rw (first-beyond (before kept rows cols s w) (readingChecks (w .matrix)) refl refl (eqb-true _ 0 e) {q = firstOf (readingChecks (w .matrix))} refl) at reading-place
+      go true e =
+          rw
+          (first-beyond (before kept rows cols s w) (readingChecks (w .matrix)) refl refl (eqb-true _ 0 e)
+          {q = firstOf (readingChecks (w .matrix))} refl)
+          at reading-place
       go false e =
           let q = first-placeless 8 (before kept rows cols s w) (omega arith) refl in
           rw (← first-here (before kept rows cols s w) (readingChecks (w .matrix)) refl refl (eqb-false _ 0 e))
@@ -220,7 +247,9 @@ pub record Fit (kept : Bool) (rows cols : ℕ) (s : Settings) (w : Work) : Type 
   pub credit-low : s .credit ≤ mostCredit
 
 -- a call that is not refused is fit
-pub fit : (kept : Bool) (rows cols : ℕ) (s : Settings) (w : Work) → refusalOf kept rows cols s w .number ≡ 0 → Fit kept rows cols s w
+pub fit :
+    (kept : Bool) (rows cols : ℕ) (s : Settings) (w : Work) → refusalOf kept rows cols s w .number ≡ 0 →
+    Fit kept rows cols s w
 fit kept rows cols s w e =
     let c = clear kept rows cols s w .0 e in
     record {

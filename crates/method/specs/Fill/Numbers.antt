@@ -42,7 +42,9 @@ module _ (n : ℕ) (a : List Float) where
     λ e.
         let p = none-refused fill-tests refl .0 e in
         record { some = some n (p .0); few = few mostSize n (p .1 .0); whole = equal (length a) (n * n) (p .1 .1 .0) },
-    λ x. none-refused fill-tests refl .1 (λ z. omega (arith, x .some), (λ l. omega (arith, x .few), (λ f. f (x .whole), tt))),
+    λ x.
+        none-refused fill-tests refl .1
+        (λ z. omega (arith, x .some), (λ l. omega (arith, x .few), (λ f. f (x .whole), tt))),
   )
 
   -- ---- each number, where its condition holds and none before it does

@@ -107,7 +107,9 @@ pub smaller-least : (x y : Float) → T (not (isNan x)) → (lt x (smaller x y) 
 unfolding smaller
 smaller-least x y n = go (isNan x) n (lt y x) refl
   where
-    go : (a : Bool) → T (not a) → (b : Bool) → lt y x ≡ b → (lt x (pick a y (pick b y x)) ≡ false) × (lt y (pick a y (pick b y x)) ≡ false)
+    go :
+        (a : Bool) → T (not a) → (b : Bool) → lt y x ≡ b →
+        (lt x (pick a y (pick b y x)) ≡ false) × (lt y (pick a y (pick b y x)) ≡ false)
     go true n b h = absurd n
     go false n true h = (lt-once y x h, lt-self y)
     go false n false h = (lt-self x, h)
@@ -116,7 +118,9 @@ pub larger-greatest : (x y : Float) → T (not (isNan x)) → (lt (larger x y) x
 unfolding larger
 larger-greatest x y n = go (isNan x) n (lt x y) refl
   where
-    go : (a : Bool) → T (not a) → (b : Bool) → lt x y ≡ b → (lt (pick a y (pick b y x)) x ≡ false) × (lt (pick a y (pick b y x)) y ≡ false)
+    go :
+        (a : Bool) → T (not a) → (b : Bool) → lt x y ≡ b →
+        (lt (pick a y (pick b y x)) x ≡ false) × (lt (pick a y (pick b y x)) y ≡ false)
     go true n b h = absurd n
     go false n true h = (lt-once x y h, lt-self y)
     go false n false h = (lt-self x, h)

@@ -1,5 +1,6 @@
--- The report's laws as laws of the calls, refusals counted in: what the accumulating call accepts the plain call accepts, with the same report and matrix;
--- and a settled answer is the same answer at every greater allowed limit. Assumes nothing.
+-- The report's laws as laws of the calls, refusals counted in: what the accumulating call accepts the plain call
+-- accepts, with the same report and matrix; and a settled answer is the same answer at every greater allowed limit.
+-- Assumes nothing.
 use mathlib.Core.Path.{_≡_}
 use mathlib.Core.Logic.{_⊎_, inl, inr}
 use mathlib.Core.Bool.{Bool, true, false, false≢true}
@@ -13,14 +14,16 @@ use Rattle.method.specs.Walk.Counts.{enough-most}
 use Rattle.method.specs.Checks.{refusalOf}
 use Rattle.method.specs.Report.{settled}
 use Rattle.method.specs.Outcome.{outcome, plainOutcome, fullOutcome}
-use Rattle.method.specs.Settings.{Settings, mostPasses}
+use Rattle.method.specs.Settings.{Settings, mostLimit, mostCredit, mostPasses}
 use Rattle.method.specs.Checks.Table.{clear, fit}
 use Rattle.method.specs.Outcome.Refused.{accepted-outcome}
 use Rattle.method.specs.Outcome.Reports.{accepted-true, accepted-settled, atLimit, card-most}
 use Rattle.method.specs.Same.{accepted-agree}
 
 -- the plain call asks less than the accumulating one
-pub plain-accepts : (rows cols : ℕ) (s : Settings) (w : Work) → refusalOf true rows cols s w .number ≡ 0 → refusalOf false rows cols s (work (w .matrix) [] []) .number ≡ 0
+pub plain-accepts :
+    (rows cols : ℕ) (s : Settings) (w : Work) → refusalOf true rows cols s w .number ≡ 0 →
+    refusalOf false rows cols s (work (w .matrix) [] []) .number ≡ 0
 plain-accepts rows cols s w e =
     let c = clear true rows cols s w .0 e in
     clear false rows cols s (work (w .matrix) [] []) .1
@@ -38,17 +41,29 @@ pub calls-agree :
     (fullOutcome f rows cols s w .report ≡ plainOutcome f rows cols s (w .matrix) .report)
     × (fullOutcome f rows cols s w .held .matrix ≡ plainOutcome f rows cols s (w .matrix) .held .matrix)
 calls-agree f rows cols s w e =
-    rw (accepted-outcome f true rows cols s w e, accepted-outcome f false rows cols s (work (w .matrix) [] []) (plain-accepts rows cols s w e))
+    rw (
+      accepted-outcome f true rows cols s w e,
+      accepted-outcome f false rows cols s (work (w .matrix) [] []) (plain-accepts rows cols s w e),
+    )
     (accepted-agree f rows cols s w)
 
 -- another allowed limit is not refused where this one is not
-pub limit-accepts : (kept : Bool) (rows cols : ℕ) (s : Settings) (w : Work) (n : ℕ) → n ≤ 100000 → refusalOf kept rows cols s w .number ≡ 0 → refusalOf kept rows cols (atLimit n s) w .number ≡ 0
+pub limit-accepts :
+    (kept : Bool) (rows cols : ℕ) (s : Settings) (w : Work) (n : ℕ) → n ≤ mostLimit →
+    refusalOf kept rows cols s w .number ≡ 0 →
+    refusalOf kept rows cols (atLimit n s) w .number ≡ 0
 limit-accepts kept rows cols s w n h e =
     let c = clear kept rows cols s w .0 e in
     clear kept rows cols (atLimit n s) w .1
-    record { sizes = c .sizes; lengths = c .lengths; settings = (low (c .settings .0), c .settings .1); readings = c .readings }
+    record {
+      sizes = c .sizes;
+      lengths = c .lengths;
+      settings = (low (c .settings .0), c .settings .1);
+      readings = c .readings;
+    }
   where
-    low : ((100000 < s .limit) ⊎ (1000 < s .credit) → ⊥) → (100000 < n) ⊎ (1000 < s .credit) → ⊥
+    low :
+        ((mostLimit < s .limit) ⊎ (mostCredit < s .credit) → ⊥) → (mostLimit < n) ⊎ (mostCredit < s .credit) → ⊥
     low k (inl l) = omega arith
     low k (inr l) = k (inr l)
 
@@ -56,12 +71,15 @@ limit-accepts kept rows cols s w n h e =
 pub settled-stays :
     (f : Format) (kept : Bool) (rows cols : ℕ) (s : Settings) (w : Work) (n : ℕ) →
     s .limit ≤ n →
-    n ≤ 100000 →
+    n ≤ mostLimit →
     refusalOf kept rows cols s w .number ≡ 0 →
     outcome f kept rows cols s w .report .word ≡ settled →
     outcome f kept rows cols (atLimit n s) w ≡ outcome f kept rows cols s w
 settled-stays f kept rows cols s w n h most e q =
-    rw (accepted-outcome f kept rows cols (atLimit n s) w (limit-accepts kept rows cols s w n most e), accepted-outcome f kept rows cols s w e)
+    rw (
+      accepted-outcome f kept rows cols (atLimit n s) w (limit-accepts kept rows cols s w n most e),
+      accepted-outcome f kept rows cols s w e,
+    )
     (accepted-settled f kept rows cols s w n h (rw (accepted-outcome f kept rows cols s w e) at q))
 
 -- the passes of an accepted run are at most `mostPasses`
@@ -72,4 +90,5 @@ pub passes-most :
 passes-most f kept rows cols s w e =
     let k = fit kept rows cols s w e in
     rw (accepted-outcome f kept rows cols s w e)
-    (le-trans (accepted-true f kept rows cols s w (k .rows-some) (k .cols-some) .few) (enough-most (card-most rows cols (k .rows-few) (k .cols-few)) (k .limit-low) (k .credit-low)))
+    (le-trans (accepted-true f kept rows cols s w (k .rows-some) (k .cols-some) .few)
+    (enough-most (card-most rows cols (k .rows-few) (k .cols-few)) (k .limit-low) (k .credit-low)))

@@ -1,5 +1,5 @@
--- The two ways out of a call: a refusal leaves every list as it was and reports itself alone, and without one the outcome is the accepted run's. Assumes
--- nothing.
+-- The two ways out of a call: a refusal leaves every list as it was and reports itself alone, and without one the
+-- outcome is the accepted run's. Assumes nothing.
 use mathlib.Core.Path.{_≡_, refl, sym, _∙_}
 use mathlib.Core.Bool.{Bool, true, false}
 use Prim.Native.Nat.{ℕ}
@@ -14,12 +14,15 @@ use Rattle.method.specs.Outcome.{outcomeOf, accepted, outcome}
 
 module _ (f : Format) (kept : Bool) (rows cols : ℕ) (s : Settings) (w : Work) where
   -- a refusal leaves every list as it was, and carries its number, its place and the word `none` alone
-  pub refused-outcome : ¬ (refusalOf kept rows cols s w .number ≡ 0) → outcome f kept rows cols s w ≡ outcomeOf (refused (refusalOf kept rows cols s w)) w
+  pub refused-outcome :
+      ¬ (refusalOf kept rows cols s w .number ≡ 0) →
+      outcome f kept rows cols s w ≡ outcomeOf (refused (refusalOf kept rows cols s w)) w
   unfolding outcome
   refused-outcome h = rw (ne-eqb (refusalOf kept rows cols s w .number) 0 h, outcome)
 
   -- without a refusal the outcome is that of the accepted run
-  pub accepted-outcome : refusalOf kept rows cols s w .number ≡ 0 → outcome f kept rows cols s w ≡ accepted f kept rows cols s w
+  pub accepted-outcome :
+      refusalOf kept rows cols s w .number ≡ 0 → outcome f kept rows cols s w ≡ accepted f kept rows cols s w
   unfolding outcome
   accepted-outcome e = rw (eq-eqb (refusalOf kept rows cols s w .number) 0 e, outcome)
 
@@ -35,5 +38,7 @@ module _ (f : Format) (kept : Bool) (rows cols : ℕ) (s : Settings) (w : Work) 
       go :
           (b : Bool) → eqb (refusalOf kept rows cols s w .number) 0 ≡ b →
           outcome f kept rows cols s w .report .refusal .number ≡ refusalOf kept rows cols s w .number
-      go true t = let e = eqb-true (refusalOf kept rows cols s w .number) 0 t in rw (accepted-outcome e) (accepted-number ∙ sym e)
+      go true t =
+          let e = eqb-true (refusalOf kept rows cols s w .number) 0 t in
+          rw (accepted-outcome e) (accepted-number ∙ sym e)
       go false t = rw (refused-outcome (eqb-false (refusalOf kept rows cols s w .number) 0 t))

@@ -1,6 +1,7 @@
--- The report is true: what every accepted run reports, that the factors change neither report nor matrix, that a settled answer is the same at every greater
--- limit, and that at credit 0 each limit shows the state after as many passes. Assumes nothing.
-use mathlib.Core.Path.{_≡_, refl}
+-- The report is true: what every accepted run reports, that the factors change neither report nor matrix, that a
+-- settled answer is the same at every greater limit, and that at credit 0 each limit shows the state after as many
+-- passes. Assumes nothing.
+use mathlib.Core.Path.{_≡_, refl, ap}
 use mathlib.Core.Logic.{_⊎_, inl, inr}
 use mathlib.Core.Bool.{Bool, true, false}
 use Prim.Native.Nat.{ℕ, _+_, _-_, _*_, _≤_, _<_}
@@ -9,14 +10,14 @@ use native.Mathlib.Omega.{arith}
 use lib.Dec.{leb}
 use lib.Ieee.{Format}
 use Rattle.method.specs.Work.{Work, packed}
-use Rattle.method.specs.Bidiagonal.{bidiagonal}
 use Rattle.method.specs.Walk.{Walk, State, start, run}
 use Rattle.method.specs.Walk.Counts.{WholeWalk, whole-walk}
 use Rattle.method.specs.Walk.Limits as Limits
+use Rattle.method.specs.Walk.Applied.{applied, walked-applied}
 use Rattle.method.specs.Report.{settled, stopped, Report}
 use Rattle.method.specs.Report.Words.{settled-one, one-settled, more-stopped}
-use Rattle.method.specs.Outcome.{card, isUpper, rulesOf, walkedFrom, accepted}
-use Rattle.method.specs.Settings.{Settings}
+use Rattle.method.specs.Outcome.{card, rulesFor, formOf, walkedFrom, accepted}
+use Rattle.method.specs.Settings.{Settings, mostSize}
 
 -- ---- what every accepted run reports, over a diagonal of c entries
 
@@ -38,10 +39,10 @@ card-some rows cols h g = go (leb cols rows) refl
     go true e = rw e g
     go false e = rw e h
 
-pub card-most : (rows cols : ℕ) → rows ≤ 48 → cols ≤ 48 → card rows cols ≤ 48
+pub card-most : (rows cols : ℕ) → rows ≤ mostSize → cols ≤ mostSize → card rows cols ≤ mostSize
 card-most rows cols h g = go (leb cols rows) refl
   where
-    go : (t : Bool) → leb cols rows ≡ t → card rows cols ≤ 48
+    go : (t : Bool) → leb cols rows ≡ t → card rows cols ≤ mostSize
     go true e = rw e g
     go false e = rw e h
 
@@ -52,8 +53,7 @@ module _ (f : Format) (kept : Bool) (rows cols : ℕ) (s : Settings) (w : Work) 
   true-walk : 1 ≤ rows → 1 ≤ cols → WholeWalk (s .limit) (s .credit) (card rows cols) (ends .walk)
   true-walk h g =
       let z = packed kept rows cols in
-      whole-walk (rulesOf f z (isUpper rows cols) (s .tolerance) (s .absolute)) (s .limit) (s .credit) (card rows cols)
-      (bidiagonal f (s .floor) z (isUpper rows cols) (card rows cols) w)
+      whole-walk (rulesFor f z rows cols s) (s .limit) (s .credit) (card rows cols) (formOf f z rows cols s w)
       (card-some rows cols h g)
 
   pub accepted-true : 1 ≤ rows → 1 ≤ cols → TrueReport s (card rows cols) (accepted f kept rows cols s w .report)
@@ -84,24 +84,43 @@ module _ (f : Format) (kept : Bool) (rows cols : ℕ) (s : Settings) (w : Work) 
       go (inl l) m = inl (omega arith)
       go (inr l) m = inr l
 
+  -- the reported passes are those that were made: after as many from the bidiagonal form, lists and counts are these
+  pub accepted-applied :
+      let z = packed kept rows cols in
+      let first = start (card rows cols) (formOf f z rows cols s w) in
+      let o = accepted f kept rows cols s w in
+      let e = applied (rulesFor f z rows cols s) (s .credit) (o .report .tally .passes) first in
+      (o .report .tally ≡ e .walk .tally) × (o .held ≡ e .held)
+  unfolding accepted
+  accepted-applied =
+      let z = packed kept rows cols in
+      let q = walked-applied (rulesFor f z rows cols s) (s .limit) (s .credit) (card rows cols) _ .counted in
+      (ap (λ (e : State Work). e .walk .tally) q, ap (λ (e : State Work). e .held) q)
+
 -- ---- at a greater limit
 
 abbrev pub atLimit : ℕ → Settings → Settings
-atLimit n s = record { limit = n; credit = s .credit; tolerance = s .tolerance; absolute = s .absolute; floor = s .floor }
+atLimit n s =
+    record { limit = n; credit = s .credit; tolerance = s .tolerance; absolute = s .absolute; floor = s .floor }
 
 module _ (f : Format) (kept : Bool) (rows cols : ℕ) (s : Settings) (w : Work) where
   -- a settled run is the same run at every greater limit
-  pub accepted-settled : (n : ℕ) → s .limit ≤ n → accepted f kept rows cols s w .report .word ≡ settled → accepted f kept rows cols (atLimit n s) w ≡ accepted f kept rows cols s w
+  pub accepted-settled :
+      (n : ℕ) → s .limit ≤ n → accepted f kept rows cols s w .report .word ≡ settled →
+      accepted f kept rows cols (atLimit n s) w ≡ accepted f kept rows cols s w
   unfolding accepted
   accepted-settled n h e =
       let z = packed kept rows cols in
-      let q : walkedFrom f z rows cols (atLimit n s) w ≡ walkedFrom f z rows cols s w = Limits.settled (rulesOf f z (isUpper rows cols) (s .tolerance) (s .absolute)) (s .credit) h (card rows cols) _ (le-of-eq (settled-one (walkedFrom f z rows cols s w) e)) in
+      let q : walkedFrom f z rows cols (atLimit n s) w ≡ walkedFrom f z rows cols s w =
+      Limits.settled (rulesFor f z rows cols s) (s .credit) h (card rows cols) _
+      (le-of-eq (settled-one (walkedFrom f z rows cols s w) e)) in
       rw q
 
   -- at credit 0 the limit k shows the state after k passes: the run of any greater limit n, cut off after k
   pub accepted-exposed :
       (k n : ℕ) → k ≤ n → s .credit ≡ 0 →
-      walkedFrom f (packed kept rows cols) rows cols (atLimit k s) w ≡
-      run (rulesOf f (packed kept rows cols) (isUpper rows cols) (s .tolerance) (s .absolute)) n 0 k
-      (start (card rows cols) (bidiagonal f (s .floor) (packed kept rows cols) (isUpper rows cols) (card rows cols) w))
-  accepted-exposed k n h e = rw e (Limits.exposed (rulesOf f (packed kept rows cols) (isUpper rows cols) (s .tolerance) (s .absolute)) h (card rows cols) _)
+      let z = packed kept rows cols in
+      let first = start (card rows cols) (formOf f z rows cols s w) in
+      walkedFrom f z rows cols (atLimit k s) w ≡ run (rulesFor f z rows cols s) n 0 k first
+  accepted-exposed k n h e =
+      rw e (Limits.exposed (rulesFor f (packed kept rows cols) rows cols s) h (card rows cols) _)

@@ -1,7 +1,10 @@
--- How many smallest values a value of a format is: a number of `prec` digits times a power of two, and the value again is known from it. Assumes nothing.
+-- How many smallest values a value of a format is: a number of `prec` digits times a power of two, and the value again
+-- is known from it. Assumes nothing.
 use mathlib.Core.Path.{_≡_, sym, ap, _∙_, subst}
 use Prim.Native.Nat.{ℕ, zero, suc, _+_, _-_, _*_, _/_, _%_, _^_, _≤_, _<_}
-use native.Mathlib.Nat.{le-of-eq, le-of-suc-le-suc, lt-of-lt-of-le, lt-of-not-le, lt-irrefl, zero-mul, zero-add, mul-one, mul-comm, mul-assoc, mul-right-comm, mul-pos, mul-div-cancel, div-one, div-lt-iff-lt-mul, mul-lt-mul-of-pos-right}
+use native.Mathlib.Nat.{le-of-eq, le-of-suc-le-suc, lt-of-lt-of-le, lt-of-not-le, lt-irrefl, zero-mul, zero-add}
+use native.Mathlib.Nat.{mul-one, mul-comm, mul-assoc, mul-right-comm, mul-pos, mul-div-cancel, div-one}
+use native.Mathlib.Nat.{div-lt-iff-lt-mul, mul-lt-mul-of-pos-right}
 use mathlib.Core.Bool.{Bool, true, false, _&&_}
 use lib.IntN.{ℤ, pos, negsuc}
 use lib.Dec.{T, leb, ltb, eqb, ltb→lt, leb→le}
@@ -37,7 +40,8 @@ place l (negsuc a) h =
       l - suc a,
       λ m.
           ap (λ (x : ℕ). x * 2 ^ l / 2 ^ suc a) (mul-one m)
-          ∙ ap (λ (x : ℕ). m * x / 2 ^ suc a) (ap (λ (x : ℕ). 2 ^ x) (sym (back l (suc a) le)) ∙ pow-add 2 (l - suc a) (suc a))
+          ∙ ap (λ (x : ℕ). m * x / 2 ^ suc a)
+          (ap (λ (x : ℕ). 2 ^ x) (sym (back l (suc a) le)) ∙ pow-add 2 (l - suc a) (suc a))
           ∙ ap (λ (x : ℕ). x / 2 ^ suc a) (sym (mul-assoc m (2 ^ (l - suc a)) (2 ^ suc a)))
           ∙ mul-div-cancel (m * 2 ^ (l - suc a)) (pow-pos (suc a)),
     )
@@ -51,16 +55,25 @@ pub record Shape (f : Format) (c : ℕ) : Type 0 where
   pub under : c < 2 ^ (low f + suc (emax f))
 
 pub count-zero : (f : Format) (e : ℤ) → zero * up e * 2 ^ low f / down e ≡ 0
-count-zero f e = ap (λ (z : ℕ). z / down e) (ap (λ (z : ℕ). z * 2 ^ low f) (zero-mul (up e)) ∙ zero-mul (2 ^ low f) ∙ sym (zero-mul (down e))) ∙ mul-div-cancel 0 (down-pos e)
+count-zero f e =
+    ap (λ (z : ℕ). z / down e)
+    (ap (λ (z : ℕ). z * 2 ^ low f) (zero-mul (up e)) ∙ zero-mul (2 ^ low f) ∙ sym (zero-mul (down e)))
+    ∙ mul-div-cancel 0 (down-pos e)
 
-under-of : (f : Format) (m : ℕ) (e : ℤ) → m * up e < 2 ^ suc (emax f) * down e → m * up e * 2 ^ low f / down e < 2 ^ (low f + suc (emax f))
+under-of :
+    (f : Format) (m : ℕ) (e : ℤ) → m * up e < 2 ^ suc (emax f) * down e →
+    m * up e * 2 ^ low f / down e < 2 ^ (low f + suc (emax f))
 under-of f m e h =
     div-lt-iff-lt-mul (down-pos e) .1
     (lt-of-lt-of-le (mul-lt-mul-of-pos-right h (pow-pos (low f)))
-    (le-of-eq (mul-right-comm (2 ^ suc (emax f)) (down e) (2 ^ low f) ∙ ap (λ (z : ℕ). z * down e) (mul-comm (2 ^ suc (emax f)) (2 ^ low f) ∙ sym (pow-add 2 (low f) (suc (emax f)))))))
+    (le-of-eq
+    (mul-right-comm (2 ^ suc (emax f)) (down e) (2 ^ low f)
+    ∙ ap (λ (z : ℕ). z * down e) (mul-comm (2 ^ suc (emax f)) (2 ^ low f) ∙ sym (pow-add 2 (low f) (suc (emax f)))))))
 
 -- what `fits` asks of a number that is not 0
-parts : (f : Format) (s : Bool) (m : ℕ) (e : ℤ) → T (fits f (fin s (suc m) e)) → (suc m < 2 ^ prec f) × (down e ≤ 2 ^ low f) × (suc m * up e < 2 ^ suc (emax f) * down e)
+parts :
+    (f : Format) (s : Bool) (m : ℕ) (e : ℤ) → T (fits f (fin s (suc m) e)) →
+    (suc m < 2 ^ prec f) × (down e ≤ 2 ^ low f) × (suc m * up e < 2 ^ suc (emax f) * down e)
 unfolding fits
 parts f s m e h =
     let A = eqb (suc m % 2) 1 in
@@ -111,6 +124,11 @@ toBits-count f (fin false m e) p =
     ap (λ (z : ℕ). z + n / 2 ^ (size n - prec f)) (zero-add ((size n - prec f) * hid f))
 
 -- so two positive values of the format with the same count are the same
-pub count-unique : (f : Format) (x y : Float) → T (fits f x) → T (fits f y) → T (positive x) → T (positive y) → count f x ≡ count f y → x ≡ y
+pub count-unique :
+    (f : Format) (x y : Float) → T (fits f x) → T (fits f y) → T (positive x) → T (positive y) →
+    count f x ≡ count f y →
+    x ≡ y
 count-unique f x y a b p q e =
-    sym (ofBits-toBits f x a) ∙ ap (λ (z : ℕ). ofBits f z) (toBits-count f x p ∙ ap (λ (z : ℕ). pattern f z) e ∙ sym (toBits-count f y q)) ∙ ofBits-toBits f y b
+    sym (ofBits-toBits f x a)
+    ∙ ap (λ (z : ℕ). ofBits f z) (toBits-count f x p ∙ ap (λ (z : ℕ). pattern f z) e ∙ sym (toBits-count f y q))
+    ∙ ofBits-toBits f y b

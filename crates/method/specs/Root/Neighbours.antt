@@ -1,8 +1,11 @@
--- The positive values next to r are those of the patterns next to r's: r lies between them, and no other value of the format does. Assumes nothing.
+-- The positive values next to r are those of the patterns next to r's: r lies between them, and no other value of the
+-- format does. Assumes nothing.
 use mathlib.Core.Path.{_≡_, refl, sym, ap, _∙_, subst}
 use mathlib.Core.Logic.{_⊎_, inl, inr}
 use Prim.Native.Nat.{ℕ, zero, suc, _+_, _-_, _*_, _/_, _%_, _^_, _≤_, _<_}
-use native.Mathlib.Nat.{le-trans, le-of-eq, le-of-lt, lt-of-lt-of-le, eq-or-lt-of-le, mod-lt, div-add-mod', mul-le-mul-right, mul-lt-mul-of-pos-right, mul-assoc, pow-succ', le-dest, lt-irrefl, add-zero, zero-lt-suc, le-antisymm}
+use native.Mathlib.Nat.{le-trans, le-of-eq, le-of-lt, lt-of-lt-of-le, eq-or-lt-of-le, mod-lt, div-add-mod'}
+use native.Mathlib.Nat.{mul-le-mul-right, mul-lt-mul-of-pos-right, mul-assoc, pow-succ', le-dest, lt-irrefl, add-zero}
+use native.Mathlib.Nat.{zero-lt-suc, le-antisymm}
 use native.Mathlib.Omega.{arith}
 use mathlib.Core.Bool.{Bool, false}
 use lib.Dec.{T, lt→ltb, lit≤}
@@ -44,12 +47,15 @@ next-field f zero t e = go t (hid f) e
   where
     go : (t h : ℕ) → suc t ≡ h → t < (h + 0) * 1
     go t h k = omega arith
-next-field f (suc x) t e = lt-of-lt-of-le (mul-lt-mul-of-pos-right (go t (hid f) e) (pow-pos x)) (le-of-eq (mul-assoc (hid f + 0) 2 (2 ^ x) ∙ ap (λ (z : ℕ). (hid f + 0) * z) (sym (pow-succ' 2 x))))
+next-field f (suc x) t e =
+    lt-of-lt-of-le (mul-lt-mul-of-pos-right (go t (hid f) e) (pow-pos x))
+    (le-of-eq (mul-assoc (hid f + 0) 2 (2 ^ x) ∙ ap (λ (z : ℕ). (hid f + 0) * z) (sym (pow-succ' 2 x))))
   where
     go : (t h : ℕ) → suc t ≡ h → h + t < (h + 0) * 2
     go t h k = omega arith
 
-fields-step : (f : Format) (b : ℕ) → fieldCount f (b / hid f) (b % hid f) < fieldCount f ((b + 1) / hid f) ((b + 1) % hid f)
+fields-step :
+    (f : Format) (b : ℕ) → fieldCount f (b / hid f) (b % hid f) < fieldCount f ((b + 1) / hid f) ((b + 1) % hid f)
 fields-step f b = go (eq-or-lt-of-le (mod-lt b (pow-pos (prec f - 1))))
   where
     step : (a b t : ℕ) → a + t ≡ b → b + 1 ≡ a + suc t
@@ -61,18 +67,24 @@ fields-step f b = go (eq-or-lt-of-le (mod-lt b (pow-pos (prec f - 1))))
     carry : (x h t : ℕ) → suc t ≡ h → x * h + suc t ≡ suc x * h + 0
     carry x h t e = omega arith
 
-    go : (suc (b % hid f) ≡ hid f) ⊎ (suc (b % hid f) < hid f) → fieldCount f (b / hid f) (b % hid f) < fieldCount f ((b + 1) / hid f) ((b + 1) % hid f)
+    go :
+        (suc (b % hid f) ≡ hid f) ⊎ (suc (b % hid f) < hid f) →
+        fieldCount f (b / hid f) (b % hid f) < fieldCount f ((b + 1) / hid f) ((b + 1) % hid f)
     go (inl e) =
-        let n : b + 1 ≡ suc (b / hid f) * hid f + 0 = is ∙ carry (b / hid f) (hid f) (b % hid f) e in
-        subst (λ (z : ℕ). fieldCount f (b / hid f) (b % hid f) < fieldCount f (z / hid f) (z % hid f)) (sym n)
-        (subst (λ (z : ℕ). fieldCount f (b / hid f) (b % hid f) < fieldCount f z ((suc (b / hid f) * hid f + 0) % hid f)) (sym (digits-div (suc (b / hid f)) (pow-pos (prec f - 1))))
-        (subst (λ (z : ℕ). fieldCount f (b / hid f) (b % hid f) < fieldCount f (suc (b / hid f)) z) (sym (digits-mod (suc (b / hid f)) (pow-pos (prec f - 1))))
-        (next-field f (b / hid f) (b % hid f) e)))
+        let x = b / hid f in
+        let t = b % hid f in
+        let n : b + 1 ≡ suc x * hid f + 0 = is ∙ carry x (hid f) t e in
+        subst (λ (z : ℕ). fieldCount f x t < fieldCount f (z / hid f) (z % hid f)) (sym n)
+        (subst (λ (z : ℕ). fieldCount f x t < fieldCount f z ((suc x * hid f + 0) % hid f))
+        (sym (digits-div (suc x) (pow-pos (prec f - 1))))
+        (subst (λ (z : ℕ). fieldCount f x t < fieldCount f (suc x) z) (sym (digits-mod (suc x) (pow-pos (prec f - 1))))
+        (next-field f x t e)))
     go (inr l) =
-        subst (λ (z : ℕ). fieldCount f (b / hid f) (b % hid f) < fieldCount f (z / hid f) (z % hid f)) (sym is)
-        (subst (λ (z : ℕ). fieldCount f (b / hid f) (b % hid f) < fieldCount f z ((b / hid f * hid f + suc (b % hid f)) % hid f)) (sym (digits-div (b / hid f) l))
-        (subst (λ (z : ℕ). fieldCount f (b / hid f) (b % hid f) < fieldCount f (b / hid f) z) (sym (digits-mod (b / hid f) l))
-        (same-field f (b / hid f) (b % hid f))))
+        let x = b / hid f in
+        let t = b % hid f in
+        subst (λ (z : ℕ). fieldCount f x t < fieldCount f (z / hid f) (z % hid f)) (sym is)
+        (subst (λ (z : ℕ). fieldCount f x t < fieldCount f z ((x * hid f + suc t) % hid f)) (sym (digits-div x l))
+        (subst (λ (z : ℕ). fieldCount f x t < fieldCount f x z) (sym (digits-mod x l)) (same-field f x t)))
 
 count-step : (f : Format) (b : ℕ) → b + 1 < ones f * hid f → count f (ofBits f b) < count f (ofBits f (b + 1))
 count-step f b h =
@@ -87,7 +99,8 @@ count-more : (f : Format) (d b : ℕ) → b + d < ones f * hid f → count f (of
 count-more f zero b h = le-of-eq (ap (λ (z : ℕ). count f (ofBits f z)) (sym (add-zero b)))
 count-more f (suc d) b h =
     le-trans (count-more f d b (less b d (ones f * hid f) h))
-    (le-trans (le-of-lt (count-step f (b + d) (subst (λ (z : ℕ). z < ones f * hid f) (sym (one b d)) h))) (le-of-eq (ap (λ (z : ℕ). count f (ofBits f z)) (one b d))))
+    (le-trans (le-of-lt (count-step f (b + d) (subst (λ (z : ℕ). z < ones f * hid f) (sym (one b d)) h)))
+    (le-of-eq (ap (λ (z : ℕ). count f (ofBits f z)) (one b d))))
   where
     less : (b d c : ℕ) → b + suc d < c → b + d < c
     less b d c k = omega arith
@@ -98,7 +111,8 @@ count-more f (suc d) b h =
 count-mono : (f : Format) (b c : ℕ) → b ≤ c → c < ones f * hid f → count f (ofBits f b) ≤ count f (ofBits f c)
 count-mono f b c h k =
     let d = le-dest h in
-    subst (λ (z : ℕ). count f (ofBits f b) ≤ count f (ofBits f z)) (d .1) (count-more f (d .0) b (subst (λ (z : ℕ). z < ones f * hid f) (sym (d .1)) k))
+    subst (λ (z : ℕ). count f (ofBits f b) ≤ count f (ofBits f z)) (d .1)
+    (count-more f (d .0) b (subst (λ (z : ℕ). z < ones f * hid f) (sym (d .1)) k))
 
 -- how a format's precision and its exponents go together
 pub few : (f : Format) → prec f + emax f ≡ low f + 2
@@ -115,8 +129,10 @@ pattern-lt f v h p =
     let c = count f v in
     let sh = shape f v h (positive-finite v p) in
     subst (λ (z : ℕ). z < ones f * hid f) (sym (toBits-count f v p))
-    (lt-of-lt-of-le (go (size c - prec f) (hid f) (c / 2 ^ (size c - prec f)) (2 ^ prec f) (double-hid (prec f) (two f)) (kept-lt (prec f) c))
-    (mul-le-mul-right (hid f) (fields (size c) (prec f) (low f) (emax f) (few f) (some f) (size-le c (low f + suc (emax f)) (sh .under)))))
+    (lt-of-lt-of-le (go (size c - prec f) (hid f) (c / 2 ^ (size c - prec f)) (2 ^ prec f) (double-hid (prec f) (two f))
+    (kept-lt (prec f) c))
+    (mul-le-mul-right (hid f)
+    (fields (size c) (prec f) (low f) (emax f) (few f) (some f) (size-le c (low f + suc (emax f)) (sh .under)))))
   where
     go : (k h q c : ℕ) → c ≡ 2 * h → q < c → k * h + q < (k + 2) * h
     go k h q c e g = omega arith
@@ -134,18 +150,28 @@ pattern-pos : (f : Format) (v : Float) → T (fits f v) → T (positive v) → 0
 pattern-pos f v h p = go (toBits f v) refl
   where
     go : (b : ℕ) → toBits f v ≡ b → 0 < b
-    go zero e = absurd (lt-irrefl 0 (subst (λ (z : ℕ). 0 < z) (ap (λ (y : Float). count f y) (sym (ofBits-toBits f v h) ∙ ap (λ (z : ℕ). ofBits f z) e) ∙ no-count f) (count-pos f v h p)))
+    go zero e =
+        absurd
+        (lt-irrefl 0
+        (subst (λ (z : ℕ). 0 < z)
+        (ap (λ (y : Float). count f y) (sym (ofBits-toBits f v h) ∙ ap (λ (z : ℕ). ofBits f z) e) ∙ no-count f)
+        (count-pos f v h p)))
     go (suc b) e = zero-lt-suc b
 
 -- between two values the patterns are in the counts' order
-pub pattern-order : (f : Format) (v w : Float) → T (fits f v) → T (positive v) → T (fits f w) → T (positive w) → count f v < count f w → toBits f v < toBits f w
+pub pattern-order :
+    (f : Format) (v w : Float) → T (fits f v) → T (positive v) → T (fits f w) → T (positive w) →
+    count f v < count f w →
+    toBits f v < toBits f w
 pattern-order f v w a p b q l = go (less-or-not (toBits f v) (toBits f w))
   where
     go : (toBits f v < toBits f w) ⊎ (toBits f w ≤ toBits f v) → toBits f v < toBits f w
     go (inl k) = k
     go (inr k) =
         absurd (lt-irrefl (count f v) (lt-of-lt-of-le l
-        (subst (λ (y : Float). count f y ≤ count f v) (ofBits-toBits f w b) (subst (λ (y : Float). count f (ofBits f (toBits f w)) ≤ count f y) (ofBits-toBits f v a) (count-mono f (toBits f w) (toBits f v) k (pattern-lt f v a p))))))
+        (subst (λ (y : Float). count f y ≤ count f v) (ofBits-toBits f w b)
+        (subst (λ (y : Float). count f (ofBits f (toBits f w)) ≤ count f y) (ofBits-toBits f v a)
+        (count-mono f (toBits f w) (toBits f v) k (pattern-lt f v a p))))))
 
 -- ---- r and its neighbours
 pub before-less : (f : Format) (r : Float) → T (fits f r) → T (positive r) → count f (before f r) < count f r
@@ -159,20 +185,29 @@ before-less f r h p =
     one-back b k = omega arith
 
 -- the largest value has an infinity after it; each other one a value
-pub after-more : (f : Format) (r : Float) → T (fits f r) → toBits f r + 1 < ones f * hid f → count f r < count f (after f r)
-after-more f r h l = subst (λ (y : Float). count f y < count f (after f r)) (ofBits-toBits f r h) (count-step f (toBits f r) l)
+pub after-more :
+    (f : Format) (r : Float) → T (fits f r) → toBits f r + 1 < ones f * hid f → count f r < count f (after f r)
+after-more f r h l =
+    subst (λ (y : Float). count f y < count f (after f r)) (ofBits-toBits f r h) (count-step f (toBits f r) l)
 
 -- no value is between them and r
-pub after-least : (f : Format) (v w : Float) → T (fits f w) → T (positive w) → toBits f v < toBits f w → count f (after f v) ≤ count f w
+pub after-least :
+    (f : Format) (v w : Float) → T (fits f w) → T (positive w) → toBits f v < toBits f w →
+    count f (after f v) ≤ count f w
 after-least f v w h p l =
-    subst (λ (y : Float). count f (after f v) ≤ count f y) (ofBits-toBits f w h) (count-mono f (toBits f v + 1) (toBits f w) (next (toBits f v) (toBits f w) l) (pattern-lt f w h p))
+    subst (λ (y : Float). count f (after f v) ≤ count f y) (ofBits-toBits f w h)
+    (count-mono f (toBits f v + 1) (toBits f w) (next (toBits f v) (toBits f w) l) (pattern-lt f w h p))
   where
     next : (a b : ℕ) → a < b → a + 1 ≤ b
     next a b k = omega arith
 
-pub before-most : (f : Format) (v w : Float) → T (fits f v) → T (positive v) → T (fits f w) → toBits f w < toBits f v → count f w ≤ count f (before f v)
+pub before-most :
+    (f : Format) (v w : Float) → T (fits f v) → T (positive v) → T (fits f w) → toBits f w < toBits f v →
+    count f w ≤ count f (before f v)
 before-most f v w h p k l =
-    subst (λ (y : Float). count f y ≤ count f (before f v)) (ofBits-toBits f w k) (count-mono f (toBits f w) (toBits f v - 1) (next (toBits f w) (toBits f v) l) (less (toBits f v) (ones f * hid f) (pattern-lt f v h p)))
+    subst (λ (y : Float). count f y ≤ count f (before f v)) (ofBits-toBits f w k)
+    (count-mono f (toBits f w) (toBits f v - 1) (next (toBits f w) (toBits f v) l)
+    (less (toBits f v) (ones f * hid f) (pattern-lt f v h p)))
   where
     next : (a b : ℕ) → a < b → a ≤ b - 1
     next a b k = omega arith
@@ -184,17 +219,27 @@ before-most f v w h p k l =
 abbrev pub Apart : Format → Float → Float → Type 0
 Apart f r y = (count f y ≤ count f (before f r)) ⊎ ((count f y ≡ count f r) ⊎ (count f (after f r) ≤ count f y))
 
-pub none-between : (f : Format) (r y : Float) → T (fits f r) → T (positive r) → T (fits f y) → T (finite y) → Apart f r y
+pub none-between :
+    (f : Format) (r y : Float) → T (fits f r) → T (positive r) → T (fits f y) → T (finite y) → Apart f r y
 unfolding fits
 none-between f r nan h p k g = absurd g
 none-between f r (inf s) h p k g = absurd g
-none-between f r (fin s zero e) h p k g = inl (subst (λ (z : ℕ). z ≤ count f (before f r)) (sym (count-zero f e)) (omega arith))
-none-between f r (fin s (suc m) e) h p k g = go (less-or-not (toBits f y) (toBits f r)) (less-or-not (toBits f r) (toBits f y))
+none-between f r (fin s zero e) h p k g =
+    inl (subst (λ (z : ℕ). z ≤ count f (before f r)) (sym (count-zero f e)) (omega arith))
+none-between f r (fin s (suc m) e) h p k g =
+    go (less-or-not (toBits f y) (toBits f r)) (less-or-not (toBits f r) (toBits f y))
   where
     y : Float
     y = fin false (suc m) e
 
-    go : (toBits f y < toBits f r) ⊎ (toBits f r ≤ toBits f y) → (toBits f r < toBits f y) ⊎ (toBits f y ≤ toBits f r) → Apart f r y
+    go :
+        (toBits f y < toBits f r) ⊎ (toBits f r ≤ toBits f y) →
+        (toBits f r < toBits f y) ⊎ (toBits f y ≤ toBits f r) →
+        Apart f r y
     go (inl l) d = inl (before-most f r y h p k l)
     go (inr a) (inl l) = inr (inr (after-least f r y k (lt→ltb 0 (suc m) (zero-lt-suc m)) l))
-    go (inr a) (inr b) = inr (inl (ap (λ (v : Float). count f v) (sym (ofBits-toBits f y k) ∙ ap (λ (z : ℕ). ofBits f z) (le-antisymm b a) ∙ ofBits-toBits f r h)))
+    go (inr a) (inr b) =
+        inr
+        (inl
+        (ap (λ (v : Float). count f v)
+        (sym (ofBits-toBits f y k) ∙ ap (λ (z : ℕ). ofBits f z) (le-antisymm b a) ∙ ofBits-toBits f r h)))

@@ -35,16 +35,22 @@ unsigned f b h =
     ∙ ap (λ (s : Bool). ofFields f s (b % top f / hid f) (b % hid f)) (is-false (leb (top f) b) (lt→nleb (top f) b l))
     ∙ ap (λ (z : ℕ). ofFields f false (z / hid f) (b % hid f)) (mod-eq-of-lt l)
 
-ofFields-val : (f : Format) (x t : ℕ) → x < ones f → HasValue (ofFields f false x t) false (fieldCount f x t) (2 ^ low f)
+ofFields-val :
+    (f : Format) (x t : ℕ) → x < ones f → HasValue (ofFields f false x t) false (fieldCount f x t) (2 ^ low f)
 unfolding ofFields
-ofFields-val f zero t h = subst (λ (z : ℕ). HasValue (odd (prec f) false t 0 (low f)) false z (2 ^ low f)) (mul-one t) (odd-sign (prec f) false t 0 (low f))
+ofFields-val f zero t h =
+    subst (λ (z : ℕ). HasValue (odd (prec f) false t 0 (low f)) false z (2 ^ low f)) (mul-one t)
+    (odd-sign (prec f) false t 0 (low f))
 ofFields-val f (suc x) t h =
     subst (λ (z : Float). HasValue z false ((hid f + t) * 2 ^ x) (2 ^ low f))
     (sym (cond-no (eqb (suc x) (ones f)) (cond (eqb t 0) (inf false) nan) (odd (prec f) false (hid f + t) x (low f))
-    (not-T (eqb (suc x) (ones f)) (λ u. lt-irrefl (ones f) (subst (λ (z : ℕ). z < ones f) (eqb→eq (suc x) (ones f) u) h)))))
+    (not-T (eqb (suc x) (ones f)) (λ u. lt-irrefl (ones f)
+    (subst (λ (z : ℕ). z < ones f) (eqb→eq (suc x) (ones f) u) h)))))
     (odd-sign (prec f) false (hid f + t) x (low f))
 
-pub bits-val : (f : Format) (b : ℕ) → b < ones f * hid f → HasValue (ofBits f b) false (fieldCount f (b / hid f) (b % hid f)) (2 ^ low f)
+pub bits-val :
+    (f : Format) (b : ℕ) → b < ones f * hid f →
+    HasValue (ofBits f b) false (fieldCount f (b / hid f) (b % hid f)) (2 ^ low f)
 bits-val f b h =
     subst (λ (z : Float). HasValue z false (fieldCount f (b / hid f) (b % hid f)) (2 ^ low f)) (sym (unsigned f b h))
     (ofFields-val f (b / hid f) (b % hid f) (div-lt-iff-lt-mul (pow-pos (prec f - 1)) .1 h))

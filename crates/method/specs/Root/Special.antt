@@ -25,9 +25,11 @@ unfolding squareRoot lt
 squareRoot-below-zero f nan h = absurd h
 squareRoot-below-zero f (inf true) h = refl
 squareRoot-below-zero f (inf false) h = absurd h
-squareRoot-below-zero f (fin true zero e) h = absurd (no-zero (up e) (down e) (ltb→lt 0 (0 * up e * 1 + 0 * 1 * down e) h))
+squareRoot-below-zero f (fin true zero e) h =
+    absurd (no-zero (up e) (down e) (ltb→lt 0 (0 * up e * 1 + 0 * 1 * down e) h))
 squareRoot-below-zero f (fin true (suc m) e) h = refl
-squareRoot-below-zero f (fin false m e) h = absurd (no-less (m * up e * 1) (down e) (ltb→lt (m * up e * 1) (0 * 1 * down e) h))
+squareRoot-below-zero f (fin false m e) h =
+    absurd (no-less (m * up e * 1) (down e) (ltb→lt (m * up e * 1) (0 * 1 * down e) h))
 
 pub squareRoot-nan : (f : Format) → squareRoot f nan ≡ nan
 unfolding squareRoot

@@ -35,8 +35,15 @@ module _ (rows cols : ℕ) (u v : List Float) (side k : ℕ) where
   pub view-fit : (viewFit rows cols u v side k ≡ true) ↔ ViewFit rows cols u v side k
   view-fit =
       Iff·trans
-      (both (both (both (both (both (both (both (nor (same rows 0)) (nor (same cols 0))) (most rows mostSize)) (most cols mostSize)) (same (length u) (rows * rows)))
-      (same (length v) (cols * cols))) (most side 1)) (less k (pick (eqb side 0) rows cols))) (
+      (both
+      (both
+      (both
+      (both
+      (both (both (both (nor (same rows 0)) (nor (same cols 0))) (most rows mostSize)) (most cols mostSize))
+      (same (length u) (rows * rows)))
+      (same (length v) (cols * cols)))
+      (most side 1))
+      (less k (pick (eqb side 0) rows cols))) (
         λ p.
             record {
               rows-some = some rows (p .0 .0 .0 .0 .0 .0 .0);
@@ -48,11 +55,35 @@ module _ (rows cols : ℕ) (u v : List Float) (side k : ℕ) where
               side-known = p .0 .1;
               row-below-size = p .1;
             },
-        λ x. (((((((λ z. omega (arith, x .rows-some), λ z. omega (arith, x .cols-some)), x .rows-few), x .cols-few), x .u-length), x .v-length), x .side-known), x .row-below-size),
+        λ x. (
+          (
+            (
+              (
+                (
+                  (
+                    (
+                      λ z. omega (arith, x .rows-some),
+                      λ z. omega
+                          (arith, x .cols-some),
+                    ),
+                    x .rows-few,
+                  ),
+                  x .cols-few,
+                ),
+                x .u-length,
+              ),
+              x .v-length,
+            ),
+            x .side-known,
+          ),
+          x .row-below-size,
+        ),
       )
 
   -- where they hold, the view is row k of U for side 0, and of V for side 1
-  pub row-viewed : ViewFit rows cols u v side k → rowViewed rows cols u v side k ≡ pick (eqb side 0) (rowOf rows k u) (rowOf cols k v)
+  pub row-viewed :
+      ViewFit rows cols u v side k →
+      rowViewed rows cols u v side k ≡ pick (eqb side 0) (rowOf rows k u) (rowOf cols k v)
   unfolding rowViewed
   row-viewed x = rw (view-fit .1 x, rowViewed)
 
@@ -66,7 +97,8 @@ module _ (rows cols : ℕ) (u v : List Float) (side k : ℕ) where
       go false t = rw (t, rowViewed)
 
   -- a view is as long as the side's size, which is 1 or more
-  pub row-viewed-length : ViewFit rows cols u v side k → length (rowViewed rows cols u v side k) ≡ pick (eqb side 0) rows cols
+  pub row-viewed-length :
+      ViewFit rows cols u v side k → length (rowViewed rows cols u v side k) ≡ pick (eqb side 0) rows cols
   row-viewed-length x = rw (row-viewed x) (go (eqb side 0) (x .row-below-size))
     where
       go : (b : Bool) → k < pick b rows cols → length (pick b (rowOf rows k u) (rowOf cols k v)) ≡ pick b rows cols

@@ -1,12 +1,13 @@
--- What is true of every walk's record: passes are sweeps and drops, drops are what the range lost, and passes are bounded; and the run
--- comes to its end by itself. Assumes nothing.
+-- What is true of every walk's record: passes are sweeps and drops, drops are what the range lost, and passes are
+-- bounded; and the run comes to its end by itself. Assumes nothing.
 use Prim.Native.Nat.{ℕ, zero, suc, _+_, _-_, _*_, _≤_, _<_}
 use native.Mathlib.Nat.{mul-suc, mul-le-mul}
 use native.Mathlib.Omega.{arith}
 use mathlib.Core.Path.{_≡_, refl, ap, _∙_}
 use mathlib.Core.Logic.{_⊎_}
 use mathlib.Core.Bool.{Bool, true, false}
-use Rattle.method.specs.Walk.{Walk, Rules, State, begun, start, afterDrop, afterSweep, going, pass, run, enough, walked}
+use Rattle.method.specs.Walk.{Walk, Rules, State, begun, start, afterDrop, afterSweep, going, pass, run, enough}
+use Rattle.method.specs.Walk.{walked}
 use Rattle.method.specs.Walk.Run.{Going, going-true, ended, pass-keeps, run-more, run-end, run-keeps, run-same}
 use Rattle.method.specs.Settings.{mostSize, mostLimit, mostCredit, mostPasses}
 
@@ -18,7 +19,8 @@ ahead limit credit w = limit - w .counter + credit * (w .tally .range - 2)
 
 -- a drop's credit is paid for by the range
 paid : (credit r : ℕ) → 2 < r → credit * (r - 2) ≡ credit * (r - 1 - 2) + credit
-paid credit r h = ap (λ (x : ℕ). credit * x) (let e : r - 2 ≡ suc (r - 1 - 2) = omega arith in e) ∙ mul-suc credit (r - 1 - 2)
+paid credit r h =
+    ap (λ (x : ℕ). credit * x) (let e : r - 2 ≡ suc (r - 1 - 2) = omega arith in e) ∙ mul-suc credit (r - 1 - 2)
 
 module _ (limit credit : ℕ) (w : Walk) (g : Going limit w) where
   ahead-some : 0 < ahead limit credit w
@@ -65,7 +67,6 @@ pub record Reached (limit credit c : ℕ) (w : Walk) : Type 0 where
   pub each : w .tally .passes ≡ w .tally .sweeps + w .tally .drops
   pub whole : w .tally .range + w .tally .drops ≡ c
   pub kept : 1 ≤ c → 1 ≤ w .tally .range
-  pub low : w .counter ≤ limit
   pub few : w .tally .passes ≤ enough limit credit c
   pub left : 1 < w .tally .range → w .tally .passes + ahead limit credit w ≤ enough limit credit c
   pub none : c ≤ 1 → w .tally .passes ≡ 0
@@ -77,7 +78,6 @@ module _ {D : Type 0} (rules : Rules D) (limit credit c : ℕ) where
         each = omega arith;
         whole = omega arith;
         kept = λ h. h;
-        low = omega arith;
         few = omega arith;
         left = λ h. omega arith;
         none = λ h. refl;
@@ -89,7 +89,6 @@ module _ {D : Type 0} (rules : Rules D) (limit credit c : ℕ) where
         each = omega arith;
         whole = omega arith;
         kept = λ h. omega (arith, g .wide);
-        low = omega arith;
         few = omega (arith, k .left (g .wide), ahead-some limit credit w g);
         left = λ h. omega (arith, k .left (g .wide), ahead-drop limit credit w g h);
         none = λ h. absurd (let z : ⊥ = omega arith in z);
@@ -101,7 +100,6 @@ module _ {D : Type 0} (rules : Rules D) (limit credit c : ℕ) where
         each = omega arith;
         whole = omega arith;
         kept = k .kept;
-        low = omega arith;
         few = omega (arith, k .left (g .wide), ahead-some limit credit w g);
         left = λ h. omega (arith, k .left (g .wide), ahead-sweep limit credit w g);
         none = λ h. absurd (let z : ⊥ = omega arith in z);
@@ -110,7 +108,9 @@ module _ {D : Type 0} (rules : Rules D) (limit credit c : ℕ) where
   pub reached : (n : ℕ) (d : D) → Reached limit credit c (run rules limit credit n (start c d) .walk)
   reached n d =
       run-keeps rules credit limit (λ s. Reached limit credit c (s .walk))
-      (λ s g k. pass-keeps rules credit (λ s′. Reached limit credit c (s′ .walk)) s (reached-drop (s .walk) g k) (reached-sweep (s .walk) g k))
+      (λ s g k.
+      pass-keeps rules credit (λ s′. Reached limit credit c (s′ .walk)) s (reached-drop (s .walk) g k)
+      (reached-sweep (s .walk) g k))
       n
       (start c d)
       reached-start
@@ -120,22 +120,9 @@ module _ {D : Type 0} (rules : Rules D) (limit credit c : ℕ) where
   walked-done d = run-done rules limit credit (enough limit credit c) (start c d) (λ h. omega arith)
 
   -- and more fuel gives the same state
-  pub walked-same : (n : ℕ) (d : D) → enough limit credit c ≤ n → run rules limit credit n (start c d) ≡ walked rules limit credit c d
+  pub walked-same :
+      (n : ℕ) (d : D) → enough limit credit c ≤ n → run rules limit credit n (start c d) ≡ walked rules limit credit c d
   walked-same n d h = run-same rules credit limit (start c d) h (walked-done d)
-
-  -- what every sweep keeps of the data, a run keeps
-  pub held-keeps :
-      (P : D → Type 0) → ((r : ℕ) (d : D) → 1 < r → r ≤ c → P d → P (rules .sweep r d)) → (n : ℕ) (d : D) → P d →
-      P (run rules limit credit n (start c d) .held)
-  held-keeps P step n d p =
-      run-keeps rules credit limit (λ s. Reached limit credit c (s .walk) × P (s .held))
-      (λ s g k.
-      pass-keeps rules credit (λ s′. Reached limit credit c (s′ .walk) × P (s′ .held)) s
-      (reached-drop (s .walk) g (k .0), k .1)
-      (reached-sweep (s .walk) g (k .0), step (s .walk .tally .range) (s .held) (g .wide) (omega (arith, k .0 .whole)) (k .1)))
-      n
-      (start c d)
-      (reached-start, p) .1
 
 -- ---- what is promised of a whole walk's record
 
@@ -165,5 +152,6 @@ whole-walk rules limit credit c d h =
 pub enough-most :
     {limit credit c : ℕ} → c ≤ mostSize → limit ≤ mostLimit → credit ≤ mostCredit → enough limit credit c ≤ mostPasses
 enough-most {limit} {credit} {c} hc hl hk =
-    let m : credit * (c - 2) ≤ 1000 * 46 = mul-le-mul {n₁ = credit} {m₁ = c - 2} {n₂ = 1000} {m₂ = 46} hk (omega arith) in
+    let m : credit * (c - 2) ≤ mostCredit * (mostSize - 2) =
+    mul-le-mul {n₁ = credit} {m₁ = c - 2} {n₂ = mostCredit} {m₂ = mostSize - 2} hk (omega arith) in
     omega arith

@@ -1,5 +1,5 @@
--- Two limits compared: a settled walk is the same at every greater one, and at credit 0 each limit shows the state after as many passes.
--- Assumes nothing.
+-- Two limits compared: a settled walk is the same at every greater one, and at credit 0 each limit shows the state
+-- after as many passes. Assumes nothing.
 use Prim.Native.Nat.{ℕ, zero, suc, _+_, _-_, _*_, _≤_}
 use native.Mathlib.Omega.{arith}
 use mathlib.Core.Path.{_≡_, refl, ap, _∙_}
@@ -31,14 +31,18 @@ module _ {D : Type 0} (rules : Rules D) (credit : ℕ) {limit limit′ : ℕ} (h
           (ih (rw (run-more rules credit limit n s e) at k))
       go false e ih =
           rw (run-end rules credit limit (suc n) s e)
-          (run-end rules credit limit′ (suc n) s (narrow limit′ (s .walk) (rw (run-end rules credit limit (suc n) s e) at k)))
+          (run-end rules credit limit′ (suc n) s
+          (narrow limit′ (s .walk) (rw (run-end rules credit limit (suc n) s e) at k)))
 
   pub settled :
       (c : ℕ) (d : D) → walked rules limit credit c d .walk .tally .range ≤ 1 →
       walked rules limit′ credit c d ≡ walked rules limit credit c d
   settled c d k =
-      let e : run rules limit′ credit (enough limit credit c) (start c d) ≡ walked rules limit credit c d = run-settled (enough limit credit c) (start c d) k in
-      run-same rules credit limit′ (start c d) (omega arith) (rw e (narrow limit′ (walked rules limit credit c d .walk) k)) ∙ e
+      let e : run rules limit′ credit (enough limit credit c) (start c d) ≡ walked rules limit credit c d =
+      run-settled (enough limit credit c) (start c d) k in
+      run-same rules credit limit′ (start c d) (omega arith)
+      (rw e (narrow limit′ (walked rules limit credit c d .walk) k))
+      ∙ e
 
 -- ---- at credit 0 the limit k exposes the state after k passes
 
@@ -50,16 +54,25 @@ module _ {D : Type 0} (rules : Rules D) {limit limit′ : ℕ} (h : limit ≤ li
     where
       go :
           (b : Bool) → ltb 1 (s .walk .tally .range) ≡ b →
-          (pass rules 0 s .walk .counter + n ≤ limit → run rules limit 0 n (pass rules 0 s) ≡ run rules limit′ 0 n (pass rules 0 s)) →
+          (pass rules 0 s .walk .counter + n ≤ limit →
+          run rules limit 0 n (pass rules 0 s) ≡ run rules limit′ 0 n (pass rules 0 s)) →
           run rules limit 0 (suc n) s ≡ run rules limit′ 0 (suc n) s
       go true e ih =
           let g : Going limit (s .walk) = record { wide = ltb-true _ _ e; below = omega arith } in
           let g′ : Going limit′ (s .walk) = record { wide = ltb-true _ _ e; below = omega arith } in
-          rw (run-more rules 0 limit n s (true-going limit (s .walk) g), run-more rules 0 limit′ n s (true-going limit′ (s .walk) g′))
+          rw (
+            run-more rules 0 limit n s (true-going limit (s .walk) g),
+            run-more rules 0 limit′ n s (true-going limit′ (s .walk) g′),
+          )
           (ih (pass-keeps rules 0 (λ s′. s′ .walk .counter + n ≤ limit) s (omega arith) (omega arith)))
       go false e ih =
-          rw (run-end rules 0 limit (suc n) s (narrow limit (s .walk) (ltb-false _ _ e)), run-end rules 0 limit′ (suc n) s (narrow limit′ (s .walk) (ltb-false _ _ e))) refl
+          rw (
+            run-end rules 0 limit (suc n) s (narrow limit (s .walk) (ltb-false _ _ e)),
+            run-end rules 0 limit′ (suc n) s (narrow limit′ (s .walk) (ltb-false _ _ e)),
+          )
+          refl
 
   pub exposed : (c : ℕ) (d : D) → walked rules limit 0 c d ≡ run rules limit′ 0 limit (start c d)
   exposed c d =
-      ap (λ (n : ℕ). run rules limit 0 n (start c d)) (let e : limit + 0 * (c - 2) ≡ limit = omega arith in e) ∙ run-exposed limit (start c d) (omega arith)
+      ap (λ (n : ℕ). run rules limit 0 n (start c d)) (let e : limit + 0 * (c - 2) ≡ limit = omega arith in e)
+      ∙ run-exposed limit (start c d) (omega arith)

@@ -1,10 +1,12 @@
--- What a loop with a budget is proved by: after k turns it has made k passes, or the walk was at its end before. Assumes nothing.
+-- What a loop with a budget is proved by: after k turns it has made k passes, or the walk was at its end before.
+-- Assumes nothing.
 use Prim.Native.Nat.{ℕ, zero, suc, _+_, _≤_, _<_, _^_}
 use native.Mathlib.Omega.{arith}
 use mathlib.Core.Path.{_≡_, refl, sym, ap, _∙_}
 use mathlib.Core.Bool.{Bool, true, false}
 use Rattle.method.specs.Walk.{Tally, Walk, Rules, State, stands, afterDrop, afterSweep, going, pass, run}
-use Rattle.method.specs.Walk.Run.{Going, true-going, pass-drop, pass-sweep, pass-keeps, run-more, run-end, run-next, run-same}
+use Rattle.method.specs.Walk.Run.{Going, true-going, pass-drop, pass-sweep, pass-keeps, run-more, run-end}
+use Rattle.method.specs.Walk.Run.{run-next, run-same}
 
 -- the sums of n passes fit the machine's numbers
 pub record TallyRoom (n : ℕ) (t : Tally) : Type 0 where
@@ -32,11 +34,15 @@ module _ {D : Type 0} (rules : Rules D) (limit credit : ℕ) where
   moved zero s = omega arith
   moved (suc k) s = go (going limit (s .walk)) refl (moved k (pass rules credit s))
     where
-      go : (b : Bool) → going limit (s .walk) ≡ b → Moved k (pass rules credit s .walk) (run rules limit credit k (pass rules credit s) .walk) → Moved (suc k) (s .walk) (run rules limit credit (suc k) s .walk)
+      go :
+          (b : Bool) → going limit (s .walk) ≡ b →
+          Moved k (pass rules credit s .walk) (run rules limit credit k (pass rules credit s) .walk) →
+          Moved (suc k) (s .walk) (run rules limit credit (suc k) s .walk)
       go false e m = rw (run-end rules credit limit (suc k) s e) (omega arith)
       go true e m =
+          let w = run rules limit credit k (pass rules credit s) .walk in
           rw (run-more rules credit limit k s e)
-          (pass-keeps rules credit (λ s′. Moved k (s′ .walk) (run rules limit credit k (pass rules credit s) .walk) → Moved (suc k) (s .walk) (run rules limit credit k (pass rules credit s) .walk)) s
+          (pass-keeps rules credit (λ s′. Moved k (s′ .walk) w → Moved (suc k) (s .walk) w) s
           (λ q. omega arith)
           (λ q. omega arith)
           m)
@@ -55,7 +61,10 @@ module _ {D : Type 0} {rules : Rules D} {limit credit k : ℕ} {s₀ s : State D
   pub made-room : {n : ℕ} → Room n (s₀ .walk) → k < n → Room 1 (s .walk)
   made-room {n} q h =
       let m = made-moved in
-      record { tally = record { passes = omega arith; sweeps = omega arith; drops = omega arith }; counter = omega arith }
+      record {
+        tally = record { passes = omega arith; sweeps = omega arith; drops = omega arith };
+        counter = omega arith;
+      }
 
   pub made-all : {n : ℕ} → k ≤ n → n ≤ k → s ≡ run rules limit credit n s₀
   made-all {n} h h′ = r .is ∙ ap (λ (x : ℕ). run rules limit credit x s₀) (let e : k ≡ n = omega arith in e)
@@ -65,7 +74,10 @@ module _ {D : Type 0} {rules : Rules D} {limit credit k : ℕ} {s₀ s : State D
 
   module _ (g : Going limit (s .walk)) where
     after : pass rules credit s ≡ run rules limit credit (k + 1) s₀
-    after = sym (run-next rules credit limit k s₀ (rw (r .is) at (true-going limit (s .walk) g)) ∙ ap (pass rules credit) (sym (r .is)))
+    after =
+        sym
+        (run-next rules credit limit k s₀ (rw (r .is) at (true-going limit (s .walk) g))
+        ∙ ap (pass rules credit) (sym (r .is)))
 
     pub made-drop :
         rules .negligible (s .walk .tally .range) (s .held) ≡ true →

@@ -1,4 +1,5 @@
--- Passes one after another: the first of a run, its end, and two runs joined, over any data, any test and any sweep. Assumes nothing.
+-- Passes one after another: the first of a run, its end, and two runs joined, over any data, any test and any sweep.
+-- Assumes nothing.
 use Prim.Native.Nat.{ℕ, zero, suc, _+_, _-_, _≤_, _<_}
 use native.Mathlib.Nat.{zero-add, suc-add, add-sub-of-le}
 use native.Mathlib.Omega.{arith}
@@ -84,7 +85,9 @@ module _ {D : Type 0} (rules : Rules D) (credit : ℕ) where
       go false e = rw (pass-sweep s e) w
 
   module _ (limit : ℕ) where
-    pub run-more : (n : ℕ) (s : State D) → going limit (s .walk) ≡ true → run rules limit credit (suc n) s ≡ run rules limit credit n (pass rules credit s)
+    pub run-more :
+        (n : ℕ) (s : State D) → going limit (s .walk) ≡ true →
+        run rules limit credit (suc n) s ≡ run rules limit credit n (pass rules credit s)
     unfolding run
     run-more n s e = rw (e, run)
 
@@ -95,30 +98,48 @@ module _ {D : Type 0} (rules : Rules D) (credit : ℕ) where
     run-end (suc n) s e = rw (e, run)
 
     -- what a pass keeps, a run keeps
-    pub run-keeps : (P : State D → Type 0) → ((s : State D) → Going limit (s .walk) → P s → P (pass rules credit s)) → (n : ℕ) (s : State D) → P s → P (run rules limit credit n s)
+    pub run-keeps :
+        (P : State D → Type 0) → ((s : State D) → Going limit (s .walk) → P s → P (pass rules credit s)) →
+        (n : ℕ) (s : State D) → P s →
+        P (run rules limit credit n s)
     unfolding run
     run-keeps P step zero s p = p
-    run-keeps P step (suc n) s p = go (going limit (s .walk)) refl (λ g. run-keeps P step n (pass rules credit s) (step s g p))
+    run-keeps P step (suc n) s p =
+        go (going limit (s .walk)) refl (λ g. run-keeps P step n (pass rules credit s) (step s g p))
       where
-        go : (b : Bool) → going limit (s .walk) ≡ b → (Going limit (s .walk) → P (run rules limit credit n (pass rules credit s))) → P (run rules limit credit (suc n) s)
+        go :
+            (b : Bool) → going limit (s .walk) ≡ b →
+            (Going limit (s .walk) → P (run rules limit credit n (pass rules credit s))) →
+            P (run rules limit credit (suc n) s)
         go true e more = rw (run-more n s e) (more (going-true limit (s .walk) e))
         go false e more = rw (run-end (suc n) s e) p
 
     -- the pause law: m passes and then n are m + n
-    pub run-add : (m n : ℕ) (s : State D) → run rules limit credit (m + n) s ≡ run rules limit credit n (run rules limit credit m s)
+    pub run-add :
+        (m n : ℕ) (s : State D) →
+        run rules limit credit (m + n) s ≡ run rules limit credit n (run rules limit credit m s)
     unfolding run
     run-add zero n s = rw (zero-add n)
     run-add (suc m) n s = rw (suc-add m n) (go (going limit (s .walk)) refl (run-add m n (pass rules credit s)))
       where
-        go : (b : Bool) → going limit (s .walk) ≡ b → run rules limit credit (m + n) (pass rules credit s) ≡ run rules limit credit n (run rules limit credit m (pass rules credit s)) → run rules limit credit (suc (m + n)) s ≡ run rules limit credit n (run rules limit credit (suc m) s)
+        go :
+            (b : Bool) → going limit (s .walk) ≡ b →
+            run rules limit credit (m + n) (pass rules credit s) ≡
+            run rules limit credit n (run rules limit credit m (pass rules credit s)) →
+            run rules limit credit (suc (m + n)) s ≡ run rules limit credit n (run rules limit credit (suc m) s)
         go true e ih = rw (run-more (m + n) s e, run-more m s e) ih
         go false e ih = rw (run-end (suc (m + n)) s e, run-end (suc m) s e) (sym (run-end n s e))
 
     -- one pass more
-    pub run-next : (n : ℕ) (s : State D) → going limit (run rules limit credit n s .walk) ≡ true → run rules limit credit (n + 1) s ≡ pass rules credit (run rules limit credit n s)
+    pub run-next :
+        (n : ℕ) (s : State D) → going limit (run rules limit credit n s .walk) ≡ true →
+        run rules limit credit (n + 1) s ≡ pass rules credit (run rules limit credit n s)
     unfolding run
     run-next n s e = run-add n 1 s ∙ run-more 0 (run rules limit credit n s) e
 
     -- a run that came to its end is the same with more fuel
-    pub run-same : {m n : ℕ} (s : State D) → m ≤ n → going limit (run rules limit credit m s .walk) ≡ false → run rules limit credit n s ≡ run rules limit credit m s
-    run-same {m} {n} s h e = rw (← add-sub-of-le h) (run-add m (n - m) s ∙ run-end (n - m) (run rules limit credit m s) e)
+    pub run-same :
+        {m n : ℕ} (s : State D) → m ≤ n → going limit (run rules limit credit m s .walk) ≡ false →
+        run rules limit credit n s ≡ run rules limit credit m s
+    run-same {m} {n} s h e =
+        rw (← add-sub-of-le h) (run-add m (n - m) s ∙ run-end (n - m) (run rules limit credit m s) e)
