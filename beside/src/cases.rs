@@ -6,7 +6,7 @@ use crate::reduction::matrix::svd::primitives::identity_flat;
 use crate::text::Case;
 
 /// No case of the list makes more passes.
-pub const MOST_PASSES: usize = 40;
+pub const MOST_PASSES: u64 = 40;
 
 /// The whole list.
 pub fn all() -> Vec<Case> {

@@ -1,6 +1,10 @@
 //! The SVD module of lignum-vitae/spindalis, made runnable: the modules under `reduction` are the
 //! original's own files, changed as prepare.rs says and nowhere else (`CHANGES` is the list).
 
+/// The list of the report's words is the bindings' own, read where it stands: their crate itself
+/// cannot be built without the proved library. What the words say is computed here from the original.
+#[path = "../../bindings/rust/src/answer.rs"]
+pub mod answer;
 pub mod cases;
 pub mod kinds;
 mod record;
@@ -31,6 +35,7 @@ pub mod reduction {
     }
 }
 
+pub use answer::Answer as Report;
 use reduction::matrix::francis::constants;
 use reduction::matrix::svd::interface::{full_svd_decomposition, svd_decomposition};
 
@@ -60,21 +65,6 @@ impl Settings {
         floor: f64::MIN_POSITIVE,
         ..Settings::DEFAULT
     };
-}
-
-#[derive(Clone, Copy, Debug, PartialEq, Eq)]
-pub enum Word {
-    Settled,
-    Stopped,
-}
-
-#[derive(Clone, Copy, Debug, PartialEq, Eq)]
-pub struct Report {
-    pub word: Word,
-    pub passes: usize,
-    pub sweeps: usize,
-    pub drops: usize,
-    pub range: usize,
 }
 
 /// The plain call of the original, or with U and V the accumulating one, in place.
@@ -117,12 +107,14 @@ pub fn run(
         card == 1,
         "a walk exactly when there is more than one value"
     );
-    let range = record.left.unwrap_or(1);
+    let range = record.left.unwrap_or(1) as u64;
     Report {
+        number: 0,
+        place: 0,
         word: if range == 1 {
-            Word::Settled
+            Report::SETTLED
         } else {
-            Word::Stopped
+            Report::STOPPED
         },
         passes: record.passes,
         sweeps: record.sweeps,

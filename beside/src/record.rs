@@ -7,9 +7,9 @@ use std::cell::Cell;
 pub struct Record {
     credit: usize,
     floor: f64,
-    pub passes: usize,
-    pub sweeps: usize,
-    pub drops: usize,
+    pub passes: u64,
+    pub sweeps: u64,
+    pub drops: u64,
     /// The range when the walk ended; none where no walk was made.
     pub left: Option<usize>,
 }

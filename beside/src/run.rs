@@ -2,7 +2,7 @@
 //! table, or else what the original does.
 
 use crate::text::{hex, hexes};
-use crate::{Settings, Word, run};
+use crate::{Report, Settings, run};
 use std::fmt::Write;
 
 /// What U and V hold when the accumulating call begins.
@@ -25,11 +25,10 @@ pub struct Run {
     pub start: Start,
 }
 
-/// The report's seven numbers (number, place, word, passes, sweeps, drops, range) and the lists as
-/// they are left; U and V are empty where they are not kept.
+/// The report and the lists as they are left; U and V are empty where they are not kept.
 #[derive(Clone, Debug)]
 pub struct Reply {
-    pub report: [u64; 7],
+    pub report: Report,
     pub matrix: Vec<f64>,
     pub u: Vec<f64>,
     pub v: Vec<f64>,
@@ -112,17 +111,14 @@ impl Run {
         };
         let mut matrix = self.matrix.clone();
         let report = match self.refusal(kept) {
-            Some((number, place)) => [number, place, 0, 0, 0, 0, 0],
+            Some((number, place)) => Report {
+                number,
+                place,
+                ..Report::default()
+            },
             None => {
                 let uv = kept.then_some((&mut u[..], &mut v[..]));
-                let report = run(self.rows, self.cols, &mut matrix, uv, &self.settings);
-                let word = match report.word {
-                    Word::Settled => 1,
-                    Word::Stopped => 2,
-                };
-                let counts = [report.passes, report.sweeps, report.drops, report.range];
-                let [passes, sweeps, drops, range] = counts.map(|count| count as u64);
-                [0, 0, word, passes, sweeps, drops, range]
+                run(self.rows, self.cols, &mut matrix, uv, &self.settings)
             }
         };
         Reply {

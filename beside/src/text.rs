@@ -1,7 +1,7 @@
 //! Cases and answers as lines of text. A float is 16 upper-case hex digits of its bits; every NaN
 //! is written as 7FF8000000000000. README.md gives the two lines.
 
-use crate::{Report, Settings, Word, run};
+use crate::{Report, Settings, run};
 use std::fmt;
 
 #[derive(Clone, Debug)]
@@ -154,8 +154,9 @@ impl fmt::Display for Case {
 impl fmt::Display for Report {
     fn fmt(&self, f: &mut fmt::Formatter) -> fmt::Result {
         let word = match self.word {
-            Word::Settled => "settled",
-            Word::Stopped => "stopped",
+            Report::SETTLED => "settled",
+            Report::STOPPED => "stopped",
+            _ => "none",
         };
         write!(
             f,

@@ -21,7 +21,7 @@ pub fn stored() -> Vec<Run> {
         let drawn = (0..).map(|number| drawn(0x570E, number, Sizes::UpTo(most)).0);
         runs.extend(
             drawn
-                .filter(|run| reply(run).report[3] <= MOST_PASSES)
+                .filter(|run| reply(run).report.passes <= MOST_PASSES)
                 .take(many),
         );
     }
@@ -93,7 +93,7 @@ impl From<Case> for Run {
 /// has no 4 and 5; it must get the same.
 pub fn reply(run: &Run) -> Reply {
     let reply = run.reply(run.kept);
-    if run.kept && ![4, 5].contains(&reply.report[0]) {
+    if run.kept && ![4, 5].contains(&reply.report.number) {
         let plain = run.reply(false);
         assert!(
             plain.report == reply.report && alike(&plain.matrix, &reply.matrix),
@@ -123,8 +123,8 @@ pub fn words(run: &Run, reply: &Reply) -> Vec<u64> {
     words.extend(lists.map(|list| list.len() as u64));
     let before = &lists[..if given { 3 } else { 1 }];
     words.extend(before.iter().copied().flatten().map(|x| x.to_bits()));
-    words.extend(reply.report);
-    if reply.report[0] == 0 {
+    words.extend(reply.report.words());
+    if reply.report.number == 0 {
         let after = [&reply.matrix, &reply.u, &reply.v];
         words.extend(after.into_iter().flatten().map(|&x| bits(x)));
     }
@@ -163,8 +163,8 @@ pub fn summary(runs: impl Iterator<Item = Run>) -> String {
     let mut passes = 0;
     for run in runs {
         let report = reply(&run).report;
-        by_word[report[2] as usize] += 1;
-        passes += report[3];
+        by_word[report.word as usize] += 1;
+        passes += report.passes;
     }
     let [refused, settled, stopped] = by_word;
     let many: u64 = by_word.iter().sum();

@@ -2,7 +2,7 @@
 
 use beside::cases::{MOST_PASSES, all};
 use beside::text::{Case, hexes};
-use beside::{Settings, Word};
+use beside::{Report, Settings};
 
 #[test]
 fn lines_read_back() {
@@ -59,12 +59,12 @@ fn fit_and_short() {
 fn counts() {
     for case in all() {
         let report = case.answer().unwrap().report;
-        let card = case.rows.min(case.cols);
+        let card = case.rows.min(case.cols) as u64;
         assert_eq!(report.passes, report.sweeps + report.drops, "{case}");
         assert_eq!(report.drops, card - report.range, "{case}");
         let bound = match card {
             1 => 0,
-            _ => case.settings.limit + case.settings.credit * (card - 2),
+            _ => case.settings.limit as u64 + case.settings.credit as u64 * (card - 2),
         };
         assert!(report.passes <= bound, "{case}");
     }
@@ -74,7 +74,7 @@ fn counts() {
 fn settled_stays() {
     for mut case in all() {
         let before = case.answer().unwrap();
-        if before.report.word == Word::Settled {
+        if before.report.word == Report::SETTLED {
             case.settings.limit += 7;
             assert_eq!(
                 case.answer().unwrap().to_string(),
@@ -110,13 +110,13 @@ fn much_is_shown() {
     let walks = || answers.iter().filter(|answer| answer.report.passes > 0);
     assert!(
         walks()
-            .filter(|answer| answer.report.word == Word::Settled)
+            .filter(|answer| answer.report.word == Report::SETTLED)
             .count()
             >= 10
     );
     assert!(
         walks()
-            .filter(|answer| answer.report.word == Word::Stopped)
+            .filter(|answer| answer.report.word == Report::STOPPED)
             .count()
             >= 10
     );

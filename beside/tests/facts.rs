@@ -3,9 +3,11 @@
 use beside::cases::case;
 use beside::reduction::matrix::francis::givens::implicit_givens_rotation as rotation;
 use beside::reduction::matrix::francis::givens::{apply_g_left, apply_gt_right};
+use beside::reduction::matrix::svd::interface::{full_svd_decomposition, svd_decomposition};
 use beside::reduction::matrix::svd::primitives::singular;
 use beside::text::{Answer, Case, hex, hexes};
 use beside::{Settings, run};
+use std::panic::catch_unwind;
 
 const LOW: Settings = Settings::LOW_FLOOR;
 const DEFAULT: Settings = Settings::DEFAULT;
@@ -198,5 +200,110 @@ fn columns_turn_as_the_rules_say() {
         apply_gt_right(&mut pair, 0, 1, 2, 1, cosine, sine);
         let rules = [cosine * i + sine * j, -sine * i + cosine * j];
         assert_eq!(hexes(&pair), hexes(&rules));
+    }
+}
+
+/// Where its comments and its code differ, and what it does at the edges: docs/DIFFERENCES.md.
+mod differences {
+    use super::*;
+
+    /// A ~= U Sigma V' with U and V orthogonal does not hold of every finite table.
+    #[test]
+    fn no_split_of_huge_readings() {
+        let most = answer(1, 2, &[f64::MAX; 2], DEFAULT);
+        expect(&most, "settled 0 0 0 1", &[f64::NEG_INFINITY, 0.0]);
+        let square = answer(2, 2, &[1e160, 1e160, 0.0, 1e160], DEFAULT);
+        expect(&square, "stopped 100 100 0 2", &[f64::NAN; 4]);
+        let (u, v) = square.uv.unwrap();
+        assert!(u.iter().chain(&v).all(|entry| entry.is_nan()));
+    }
+
+    /// The squares hold up to some 1e154, their squares in the shift do not: no sweep turns anything.
+    #[test]
+    fn no_shift_of_large_readings() {
+        let split = |x: f64| answer(2, 2, &[x, x, 0.0, x], DEFAULT);
+        assert_eq!(split(1e77).report.to_string(), "settled 7 6 1 1");
+        expect(
+            &split(1e78),
+            "stopped 100 100 0 2",
+            &[-1e78, 1e78, 0.0, -1e78],
+        );
+    }
+
+    /// 0 x 0 is left as it is; with no rows or no columns alone it panics.
+    #[test]
+    fn no_rows_or_no_columns() {
+        let returns = |rows: usize, cols: usize, full: bool| {
+            catch_unwind(|| {
+                let (b, p, w) = (&mut [], &mut [0.0; 3], &mut [0.0; 3]);
+                let (card, limit, tolerance, absolute) = (0, 100, 1e-10, 1e-12);
+                if full {
+                    let (mut u, mut v) = (vec![0.0; rows * rows], vec![0.0; cols * cols]);
+                    full_svd_decomposition(
+                        b, &mut u, &mut v, p, w, rows, cols, card, cols, limit, tolerance, absolute,
+                    );
+                } else {
+                    svd_decomposition(b, p, w, rows, cols, card, cols, limit, tolerance, absolute);
+                }
+            })
+            .is_ok()
+        };
+        for full in [false, true] {
+            assert!(returns(0, 0, full));
+            assert!(!returns(0, 3, full) && !returns(3, 0, full));
+        }
+    }
+
+    /// Tau is multiplied into the products u'A and Au, not into what is subtracted of them.
+    #[test]
+    fn the_place_of_tau() {
+        let none = Settings {
+            limit: 0,
+            ..DEFAULT
+        };
+        let left = answer(2, 2, &[1.0, 2.0, 1.0, 1.0], none);
+        assert_eq!(left.matrix[3], 0.7071067811865475);
+        let (u, _) = answer(2, 1, &[1.0, 4.0], DEFAULT).uv.unwrap();
+        assert_eq!(u[3], 0.24253562503633286);
+        let (u, _) = answer(2, 1, &[3.0, 4.0], DEFAULT).uv.unwrap();
+        assert_eq!(u, [-0.6000000000000001, -0.8, -0.8, 0.6]);
+    }
+
+    /// The bound is of the whole walk: what a window used above 50 passes is missing in the next.
+    #[test]
+    fn a_stall_takes_from_the_next_window() {
+        let table = [0.0, 1.0, -2.0, 0.0, -2.0, -2.0, 0.0, -2.0, -2.0];
+        let at = |limit| answer(3, 3, &table, Settings { limit, ..DEFAULT }).report;
+        assert_eq!((at(57).drops, at(58).drops), (0, 1));
+        assert_eq!(at(100).to_string(), "stopped 150 149 1 2");
+    }
+
+    /// No rotation and no drop asks for the floor.
+    #[test]
+    fn the_walk_below_the_floor() {
+        let small = answer(2, 2, &[1e-22, 1e-22, 0.0, 1e-22], DEFAULT);
+        let left = [
+            -6.180339887498949e-23,
+            -3.5264830524668625e-38,
+            0.0,
+            -1.6180339887498947e-22,
+        ];
+        expect(&small, "settled 2 1 1 1", &left);
+    }
+
+    /// The first turn of a sweep makes no zero: it goes by the shift, and the bulge comes of it.
+    #[test]
+    fn the_first_turn() {
+        let mut h = [1.0, 1.0, 0.0, 1.0];
+        let shift = singular(h[0], h[1], h[2], h[3]);
+        let (_, cosine, sine) = rotation(h[0] * h[0] - shift, h[0] * h[1]);
+        apply_gt_right(&mut h, 0, 1, 2, 2, cosine, sine);
+        let turned = [
+            0.3249196962329064,
+            1.3763819204711734,
+            -0.5257311121191335,
+            0.8506508083520399,
+        ];
+        assert_eq!(h, turned);
     }
 }

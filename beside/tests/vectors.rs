@@ -3,7 +3,7 @@
 
 use beside::run::{Reply, Run, Start};
 use beside::vectors::{LONGEST, reply, stored, summary, words, written};
-use beside::{Settings, cases, refusals};
+use beside::{Report, Settings, cases, refusals};
 use std::fs;
 
 fn file(name: &str) -> Vec<u8> {
@@ -79,7 +79,7 @@ fn each_run_ends_where_the_next_begins() {
         at += 12 + (matrix + start * (u + v)) as usize;
         let number = words[at];
         assert!(number <= 8);
-        at += 7;
+        at += Report::NAMES.len();
         if number == 0 {
             at += (matrix + u + v) as usize;
         }
@@ -118,7 +118,7 @@ fn a_bit_of_a_reply_is_seen() {
             let differ = (0..first.len()).filter(|&at| other[at] != first[at]);
             assert_eq!(differ.collect::<Vec<usize>>(), [place]);
         };
-        let entries = match right.report[0] {
+        let entries = match right.report.number {
             0 => right.matrix.len() + right.u.len() + right.v.len(),
             _ => 0,
         };
@@ -127,8 +127,11 @@ fn a_bit_of_a_reply_is_seen() {
             seen(&|reply| flip(reply, at, 0), lists + at);
             seen(&|reply| flip(reply, at, 63), lists + at);
         }
-        for at in 1..7 {
-            seen(&|reply| reply.report[at] ^= 1, lists - 7 + at);
+        let many = Report::NAMES.len();
+        for at in 1..many {
+            let mut other = right.report.words();
+            other[at] ^= 1;
+            seen(&|reply| reply.report = other.into(), lists - many + at);
         }
     }
 }
@@ -148,7 +151,7 @@ fn nans_are_alike() {
 #[test]
 fn refused_as_told() {
     for (told, run) in refusals::all() {
-        assert_eq!(reply(&run).report[0], told, "{run:?}");
+        assert_eq!(reply(&run).report.number, told, "{run:?}");
     }
 }
 
@@ -157,7 +160,12 @@ fn the_first_bad_reading_counts() {
     let mut run = Run::from(cases::case(2, 2, &[1.0; 4], Settings::DEFAULT));
     for place in (0..4).rev() {
         run.matrix[place] = f64::NAN;
-        assert_eq!(reply(&run).report, [8, place as u64, 0, 0, 0, 0, 0]);
+        let refused = Report {
+            number: 8,
+            place: place as u64,
+            ..Report::default()
+        };
+        assert_eq!(reply(&run).report, refused);
     }
 }
 

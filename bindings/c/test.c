@@ -79,7 +79,7 @@ static merotunki_answer *full(job *j) {
 }
 
 static int answered(const job *j, uint64_t word, uint64_t passes, uint64_t sweeps, uint64_t drops, uint64_t range) {
-    merotunki_answer a = {0, 0, word, passes, sweeps, drops, range};
+    merotunki_answer a = {.word = word, .passes = passes, .sweeps = sweeps, .drops = drops, .range = range};
     return memcmp(&a, &j->answer, sizeof a) == 0;
 }
 
@@ -88,8 +88,7 @@ static int same(const double *a, const double *b, size_t length) { return memcmp
 /* The call refuses by that number and place, all else in its answer is 0, and nothing that it was lent changes. */
 static job now, before;
 static int refused(merotunki_answer *(*call)(job *), uint64_t number, uint64_t place) {
-    merotunki_answer wanted = {0, 0, 0, 0, 0, 0, 0};
-    wanted.number = number, wanted.place = place;
+    merotunki_answer wanted = {.number = number, .place = place};
     for (size_t i = 0; i < LONG; i++) { /* U and V are never examined: no numbers at all */
         now.u[i] = of_bits(UINT64_C(0x7FF8000000000000) + i);
         now.v[i] = of_bits(UINT64_C(0xFFF0000000000001) + i);

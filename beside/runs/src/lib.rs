@@ -1,6 +1,7 @@
 //! The proved library, called as an app calls it, and how its reply is held against the reply that
 //! the call must get.
 
+use beside::Report;
 use beside::run::{Reply, Run, alike, untouched};
 use merotunki::raw;
 
@@ -22,34 +23,27 @@ pub fn library(run: &Run, kept: bool) -> Reply {
     } else {
         raw::svd(&mut matrix, run.rows, run.cols, choice)
     };
-    let raw::Answer {
-        number,
-        place,
-        word,
-        passes,
-        sweeps,
-        drops,
-        range,
-    } = answer;
     Reply {
-        report: [number, place, word, passes, sweeps, drops, range],
+        report: answer.words().into(),
         matrix,
         u,
         v,
     }
 }
 
-/// What differs between the reply and the one that must be, if anything.
-fn differs(got: &Reply, must: &Reply) -> Option<&'static str> {
-    if got.report != must.report {
-        return Some("report");
+/// What differs between the reply and the one that must be, if anything: the first word of the report
+/// by its name, or a list.
+fn differs(got: &Reply, must: &Reply) -> Option<String> {
+    let mut words = got.report.words().into_iter().zip(must.report.words());
+    if let Some(at) = words.position(|(got, must)| got != must) {
+        return Some(format!("the report's {}", Report::NAMES[at]));
     }
     let lists = [
         ("matrix", &got.matrix, &must.matrix),
         ("U", &got.u, &must.u),
         ("V", &got.v, &must.v),
     ];
-    let refused = must.report[0] != 0;
+    let refused = must.report.number != 0;
     let fit = |got: &[f64], must: &[f64]| {
         if refused {
             untouched(got, must)
@@ -60,19 +54,26 @@ fn differs(got: &Reply, must: &Reply) -> Option<&'static str> {
     lists
         .into_iter()
         .find(|(_, got, must)| !fit(got, must))
-        .map(|(name, ..)| name)
+        .map(|(name, ..)| name.to_string())
 }
 
 /// The laws of an accepted reply, on the library's own replies: the counts, the bound, credit 0, and
 /// the same answer at a greater limit once it is settled.
 fn breaks(run: &Run, kept: bool, got: &Reply, greater: Option<usize>) -> Option<&'static str> {
-    let [_, _, word, passes, sweeps, drops, range] = got.report;
+    let Report {
+        word,
+        passes,
+        sweeps,
+        drops,
+        range,
+        ..
+    } = got.report;
     let card = run.rows.min(run.cols) as u64;
     let (limit, credit) = (run.settings.limit as u64, run.settings.credit as u64);
     if passes != sweeps + drops || drops + range != card || range == 0 {
         return Some("law of the counts");
     }
-    if (word == 1) != (range == 1) || (card == 1 && passes != 0) {
+    if (word == Report::SETTLED) != (range == 1) || (card == 1 && passes != 0) {
         return Some("law of the word");
     }
     if card > 1 && passes > limit + credit * (card - 2) {
@@ -81,7 +82,7 @@ fn breaks(run: &Run, kept: bool, got: &Reply, greater: Option<usize>) -> Option<
     if credit == 0 && range > 1 && passes != limit {
         return Some("law of credit 0");
     }
-    let limit = greater.filter(|_| word == 1)?;
+    let limit = greater.filter(|_| word == Report::SETTLED)?;
     let mut again = run.clone();
     again.settings.limit = limit;
     let later = library(&again, kept);
@@ -93,7 +94,7 @@ fn breaks(run: &Run, kept: bool, got: &Reply, greater: Option<usize>) -> Option<
 }
 
 fn reached(run: &Run, got: &Reply) -> bool {
-    let [_, _, _, passes, _, drops, _] = got.report;
+    let Report { passes, drops, .. } = got.report;
     let card = run.rows.min(run.cols) as u64;
     let (limit, credit) = (run.settings.limit as u64, run.settings.credit as u64);
     card > 2 && credit > 0 && drops > 0 && passes == limit + credit * (card - 2)
@@ -103,7 +104,7 @@ fn reached(run: &Run, got: &Reply) -> bool {
 #[derive(Clone, Debug, Default)]
 pub struct Seen {
     /// The accumulating call's report, or the plain one's where that alone was made.
-    pub report: [u64; 7],
+    pub report: Report,
     pub calls: u64,
     pub greater: bool,
     /// Something was dropped, and the passes are as many as the bound allows.
@@ -133,15 +134,15 @@ pub fn check(run: &Run, greater: Option<usize>) -> Result<Seen, String> {
                 must.report, got.report
             ));
         }
-        if got.report[0] == 0 {
+        if got.report.number == 0 {
             if let Some(law) = breaks(run, kept, &got, greater) {
                 return Err(format!("{call} call: {law}, {:?}\n", got.report));
             }
-            seen.greater |= greater.is_some() && got.report[2] == 1;
+            seen.greater |= greater.is_some() && got.report.word == Report::SETTLED;
             seen.reached |= reached(run, &got);
         }
         if let Some(full) = &before
-            && ![4, 5].contains(&full.report[0])
+            && ![4, 5].contains(&full.report.number)
             && (full.report != got.report || !alike(&full.matrix, &got.matrix))
         {
             return Err("law of the two calls: plain and accumulating differ\n".to_string());

@@ -5,7 +5,7 @@
 //! readings confirm the strongest part; and how many stop at greater limits, up to the greatest that is allowed. With 200
 //! draws it takes about 50 seconds on one core, nearly all of it for the limit of 100,000.
 
-use beside::{Settings, Word, run};
+use beside::{Report, Settings, run};
 
 /// Splitmix64, as a number from 0 up to, but without, 1.
 struct Draw(u64);
@@ -215,7 +215,7 @@ fn print_shapes(shapes: &[Shape], draws: usize, sums: &mut Sums) {
                     Some((&mut u, &mut v)),
                     &Settings::DEFAULT,
                 );
-                if report.word == Word::Settled {
+                if report.word == Report::SETTLED {
                     settled.push(report.passes);
                 } else {
                     *stopped += 1;
@@ -226,7 +226,7 @@ fn print_shapes(shapes: &[Shape], draws: usize, sums: &mut Sums) {
             let share = 1.0 - settled.len() as f64 / draws as f64;
             let passes = settled
                 .get(settled.len() / 2)
-                .map_or("-".to_string(), usize::to_string);
+                .map_or("-".to_string(), u64::to_string);
             cells.push(format!("{} % ({passes})", (1000.0 * share).round() / 10.0));
         }
         println!("| {name} | {} |", cells.join(" | "));
@@ -253,7 +253,7 @@ fn print_limits(kinds: &[(Shape, Kind)], draws: usize) {
             };
             let stopped = drawn(table, (rows, cols), draws)
                 .map(|mut matrix| run(rows, cols, &mut matrix, None, &settings))
-                .filter(|report| report.word == Word::Stopped)
+                .filter(|report| report.word == Report::STOPPED)
                 .count();
             format!("{stopped} of {draws}")
         });

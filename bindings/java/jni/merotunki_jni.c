@@ -12,6 +12,10 @@
 #include <jni.h>
 #include <stdio.h>
 #include <stdlib.h>
+#include <string.h>
+
+/* How many words an answer has: all of them have 64 bits. Their names and order are merotunki.h's. */
+#define WORDS (sizeof(merotunki_answer) / sizeof(jlong))
 
 static void throw_new(JNIEnv *env, const char *name, const char *text) {
     jclass type = (*env)->FindClass(env, name);
@@ -30,14 +34,21 @@ static void hand_back(JNIEnv *env, jdoubleArray to, const double *from) {
 }
 
 static void tell(JNIEnv *env, jlongArray answer, const merotunki_answer *a) {
-    const jlong told[7] = {(jlong)a->number, (jlong)a->place, (jlong)a->word, (jlong)a->passes,
-                           (jlong)a->sweeps, (jlong)a->drops, (jlong)a->range};
-    if (!(*env)->ExceptionCheck(env)) (*env)->SetLongArrayRegion(env, answer, 0, 7, told);
+    jlong told[WORDS];
+    memcpy(told, a, sizeof told);
+    if (!(*env)->ExceptionCheck(env)) (*env)->SetLongArrayRegion(env, answer, 0, (jsize)WORDS, told);
 }
 
-JNIEXPORT void JNICALL Java_merotunki_Native_checkLayout(JNIEnv *env, jclass self) {
+JNIEXPORT void JNICALL Java_merotunki_Native_checkLayout(JNIEnv *env, jclass self, jint words) {
     char text[160];
     (void)self;
+    if (words != (jint)WORDS) {
+        snprintf(text, sizeof text,
+                 "Native.java has %d words of an answer, merotunki_jni has %d. Build both from one package.", (int)words,
+                 (int)WORDS);
+        throw_new(env, "java/lang/UnsatisfiedLinkError", text);
+        return;
+    }
     if (merotunki_fits()) return;
     snprintf(text, sizeof text,
              "merotunki_jni was compiled for layout %d of the library and linked with one of layout %llu. "

@@ -23,6 +23,7 @@
 //! than this crate is written for ([`raw::LAYOUT`]), making settings or a table panics and says so.
 #![deny(missing_docs, unsafe_code)]
 
+mod answer;
 mod outcome;
 #[allow(unsafe_code)]
 pub mod raw;

@@ -94,9 +94,9 @@ impl std::error::Error for Refusal {}
 // What the answer says of a table with that many columns. The library has no number above 8, and gives
 // 8 only where there are columns.
 pub(crate) fn outcome(answer: Answer, columns: usize) -> Result<Report, Refusal> {
-    let Answer { number, place, word, passes, sweeps, drops, range } = answer;
+    let Answer { number, place, word, passes, sweeps, drops, range, .. } = answer;
     match (number, word) {
-        (0, 1) => Ok(Report::Settled { passes, sweeps, drops }),
+        (0, Answer::SETTLED) => Ok(Report::Settled { passes, sweeps, drops }),
         (0, _) => Ok(Report::Stopped { passes, sweeps, drops, range }),
         (1..=7, _) => Err(PLAIN[number as usize - 1].0),
         _ => {

@@ -2,19 +2,7 @@
 //! this crate. All of the crate's unsafe code stands here. An app needs nothing of this module; it is
 //! public for programs that compare the library's own calls with others.
 
-/// What a call answers: `merotunki_answer`.
-#[repr(C)]
-#[derive(Clone, Copy, Debug, Default, PartialEq, Eq)]
-#[allow(missing_docs)]
-pub struct Answer {
-    pub number: u64,
-    pub place: u64,
-    pub word: u64,
-    pub passes: u64,
-    pub sweeps: u64,
-    pub drops: u64,
-    pub range: u64,
-}
+pub use crate::answer::Answer;
 
 /// Where a row lies: `merotunki_part`.
 #[repr(C)]
@@ -41,8 +29,7 @@ pub struct Choice {
 /// library's own is [`layout`]; it rises whenever one of them changes.
 pub const LAYOUT: u64 = 1;
 
-const _: () =
-    assert!(size_of::<Answer>() == 56 && size_of::<Part>() == 16 && size_of::<Choice>() == 40);
+const _: () = assert!(size_of::<Part>() == 16 && size_of::<Choice>() == 40);
 const _: () = assert!(size_of::<usize>() == 8, "the library is for 64-bit machines");
 
 // A slice is a pointer and a length, one after the other. An answer is written where the first argument

@@ -37,8 +37,7 @@ fn spoil(l: &mut Lent, number: u64) {
 }
 
 fn call(l: &mut Lent, full: bool) -> Answer {
-    let mut answer =
-        Answer { number: 99, place: 99, word: 99, passes: 99, sweeps: 99, drops: 99, range: 99 };
+    let mut answer = Answer::from([99; Answer::NAMES.len()]);
     let given: *mut Answer = &mut answer;
     let c = l.choice;
     let (limit, credit) = (c.limit as usize, c.credit as usize);

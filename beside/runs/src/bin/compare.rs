@@ -3,6 +3,7 @@
 //! the same one, whatever the threads. `compare only SEED N` makes that one run alone.
 //! Ends with status 1 at the first difference, printed as the smallest case that is found from it.
 
+use beside::Report;
 use beside::kinds::{Sizes, TABLES, drawn};
 use runs::{Seen, check, shrunk};
 use std::process::ExitCode;
@@ -51,7 +52,13 @@ impl Counts {
     }
 
     fn add(&mut self, seen: &Seen, rows: usize, cols: usize, table: usize) {
-        let [number, _, word, passes, _, drops, _] = seen.report;
+        let Report {
+            number,
+            word,
+            passes,
+            drops,
+            ..
+        } = seen.report;
         self.runs += 1;
         self.calls += seen.calls;
         self.numbers[number as usize] += 1;

@@ -7,16 +7,28 @@ final class Native {
     private static final int UNFIT_LIMIT = -1;
     private static final int SIZES_ARE_FIT = 6;
 
+    /** The words of an answer, in the order of merotunki.h's struct: the one list of them in Java. */
+    enum Answer {
+        NUMBER, PLACE, WORD, PASSES, SWEEPS, DROPS, RANGE;
+
+        private static final int COUNT = values().length;
+
+        /** This word of an answer. All that the library answers fits an int: places are below 48 x 48. */
+        int in(long[] answer) {
+            return (int) answer[ordinal()];
+        }
+    }
+
     static {
         System.loadLibrary("merotunki_jni");
-        checkLayout();
+        checkLayout(Answer.COUNT);
     }
 
     private Native() {}
 
     /** Splits the table where it stands; refused, it is as it was. */
     static Report split(double[] table, int stations, int passes, Settings s) throws Refusal {
-        long[] answer = new long[7];
+        long[] answer = new long[Answer.COUNT];
         svd(answer, table, stations, passes, s.limit, s.credit, s.tolerance, s.absolute, s.floor);
         return outcome(answer, passes);
     }
@@ -24,36 +36,35 @@ final class Native {
     /** The same, with U and V filled from the library's identity. */
     static Report splitFull(double[] table, double[] u, double[] v, int stations, int passes, Settings s)
             throws Refusal {
-        long[] answer = new long[7];
+        long[] answer = new long[Answer.COUNT];
         fullSvd(answer, table, u, v, stations, passes, s.limit, s.credit, s.tolerance, s.absolute, s.floor);
         return outcome(answer, passes);
     }
 
     /** Refuses by 1, 2 or 3 where the table does not fit its sizes. Writes nothing. */
     static void askSizes(double[] table, int stations, int passes) throws Refusal {
-        long[] answer = new long[7];
+        long[] answer = new long[Answer.COUNT];
         svd(answer, table, stations, passes, UNFIT_LIMIT, 0, 0.0, 0.0, 1.0);
-        if (answer[0] != SIZES_ARE_FIT) {
-            throw new Refusal((int) answer[0], 0, 0);
+        int number = Answer.NUMBER.in(answer);
+        if (number != SIZES_ARE_FIT) {
+            throw new Refusal(number, 0, 0);
         }
     }
 
-    // answer: number, place, word, passes, sweeps, drops, range, as merotunki.h has them
     private static Report outcome(long[] answer, int passes) throws Refusal {
-        int number = (int) answer[0];
-        int place = (int) answer[1];
+        int number = Answer.NUMBER.in(answer);
+        int place = Answer.PLACE.in(answer);
         if (number == 8) {
             throw new Refusal(number, place / passes, place % passes);
         }
         if (number != 0) {
             throw new Refusal(number, 0, 0);
         }
-        Report.Word word = answer[2] == 1 ? Report.Word.SETTLED : Report.Word.STOPPED;
-        return new Report(word, (int) answer[3], (int) answer[4], (int) answer[5], (int) answer[6]);
+        return new Report(answer);
     }
 
-    /** Throws where the library linked is another than the JNI source was compiled for. */
-    private static native void checkLayout();
+    /** Throws where the JNI source was compiled for another library than is linked, or for other words of an answer. */
+    private static native void checkLayout(int words);
 
     private static native void svd(long[] answer, double[] table, int stations, int passes, int limit, int credit,
             double tolerance, double absolute, double floor);

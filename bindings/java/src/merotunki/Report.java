@@ -22,12 +22,13 @@ public final class Report {
     /** How much of the diagonal is still live: 1 where settled, above 1 where stopped. */
     public final int range;
 
-    Report(Word word, int passes, int sweeps, int drops, int range) {
-        this.word = word;
-        this.passes = passes;
-        this.sweeps = sweeps;
-        this.drops = drops;
-        this.range = range;
+    /** The report of an answer whose number is 0. */
+    Report(long[] answer) {
+        word = Native.Answer.WORD.in(answer) == 1 ? Word.SETTLED : Word.STOPPED;
+        passes = Native.Answer.PASSES.in(answer);
+        sweeps = Native.Answer.SWEEPS.in(answer);
+        drops = Native.Answer.DROPS.in(answer);
+        range = Native.Answer.RANGE.in(answer);
     }
 
     /** {@code settled, passes 6} or {@code stopped, passes 100, range left 3}. */

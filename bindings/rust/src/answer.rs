@@ -1,0 +1,54 @@
+//! What a call answers: the one list of the report's words in Rust. The crate in `beside` of the repository, which runs
+//! the original, reads this same file, so that both sides are compared word by word and no word is left out.
+
+// The struct, the names of its words and the words one after the other, from one list.
+macro_rules! answer {
+    ($($(#[$meaning:meta])* $word:ident,)*) => {
+        /// What a call answers: `merotunki_answer`. In a refusal all but number and place is 0.
+        #[repr(C)]
+        #[derive(Clone, Copy, Debug, Default, PartialEq, Eq)]
+        pub struct Answer {
+            $($(#[$meaning])* pub $word: u64,)*
+        }
+
+        impl Answer {
+            /// The names of the words, in their order.
+            pub const NAMES: [&str; [$(stringify!($word)),*].len()] = [$(stringify!($word)),*];
+
+            /// The words, in the same order.
+            pub fn words(&self) -> [u64; Self::NAMES.len()] {
+                [$(self.$word),*]
+            }
+        }
+
+        impl From<[u64; Answer::NAMES.len()]> for Answer {
+            fn from([$($word),*]: [u64; Answer::NAMES.len()]) -> Self {
+                Answer { $($word),* }
+            }
+        }
+    };
+}
+
+answer! {
+    /// 0 accepted, 1 to 8 refused.
+    number,
+    /// For number 8 the index of the first bad reading, else 0.
+    place,
+    /// [`Answer::SETTLED`] or [`Answer::STOPPED`]; 0 where refused.
+    word,
+    /// Passes of the walk; each is a sweep or a drop.
+    passes,
+    /// Passes that did work.
+    sweeps,
+    /// Passes that left a value behind as found.
+    drops,
+    /// How much of the diagonal is still live: 1 where settled, above 1 where stopped.
+    range,
+}
+
+impl Answer {
+    /// Every coupling was found negligible.
+    pub const SETTLED: u64 = 1;
+    /// The limit ran out before.
+    pub const STOPPED: u64 = 2;
+}
