@@ -1,4 +1,4 @@
--- What a call checks before it touches a number: 01's table of numbers in its order, and the first of them that the
+-- What a call checks before it touches a number: the table of rule 2.1 in its order, and the first of them that the
 -- input fails. Definitions only.
 pub mod Tests
 pub mod First

@@ -1,4 +1,4 @@
--- The whole outcome of each public call, for every input (document 003, and 01's table of numbers): the first refusal
+-- The whole outcome of each public call, for every input (document 003, and the table of rule 2.1): the first refusal
 -- that applies, with all lists as they were, or the accepted run's report and lists. Definitions only.
 pub mod Reports
 pub mod Refused

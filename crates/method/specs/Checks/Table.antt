@@ -1,4 +1,4 @@
--- 01's table of numbers as theorems: what each number means, that the answer is the first of the list that applies and
+-- The table of rule 2.1 as theorems: what each number means, that the answer is the first of the list that applies and
 -- 0 where none does, the place that 8 carries, and what an acceptance tells. Assumes nothing.
 use mathlib.Core.Path.{_≡_, refl}
 use mathlib.Core.Logic.{_↔_, _⊎_, inl, inr}
