@@ -9,15 +9,15 @@ use mathlib.Core.List.{List, []}
 use Prim.Native.Nat.{ℕ, _+_, _-_, _*_, _≤_, _<_}
 use lib.Ieee.{Float, binary64}
 use Rattle.method.specs.Work.{Work, work, packed}
-use Rattle.method.specs.Bidiagonal.{bidiagonal}
-use Rattle.method.specs.Walk.{State, start, run}
+use Rattle.method.specs.Walk.{Rules, State, start, going, run}
+use Rattle.method.specs.Walk.Applied.{applied}
 use Rattle.method.specs.Settings.{mostLimit}
 use Rattle.method.specs.Checks.First.{First}
 use Rattle.method.specs.Checks.Readings.{FirstBadAt}
 use Rattle.method.specs.Checks.Table.{meanings, numbers, place}
 use Rattle.method.specs.Report as Report
 use Rattle.method.specs.Report.{refused, reported}
-use Rattle.method.specs.Outcome.{Outcome, outcomeOf, card, isUpper, rulesOf, accepted, outcome}
+use Rattle.method.specs.Outcome.{Outcome, outcomeOf, card, rulesFor, formOf, accepted, outcome}
 use Rattle.method.specs.Outcome.{plainOutcome, fullOutcome}
 use Rattle.method.specs.Outcome.Reports.{accepted-exposed, atLimit}
 use Rattle.method.specs.Outcome.Calls.{calls-agree, settled-stays}
@@ -25,10 +25,11 @@ use Rattle.checks.specs.declared.settings.Settings.{Settings}
 use Rattle.checks.specs.Values.{settingsOf, refusalIn}
 use Rattle.svd.specs.declared.report.Report.{Report}
 use Rattle.svd.specs.declared.report.Word.the-variants.{Settled, Stopped}
-use Rattle.svd.specs.Values.{reportOf, wordIn}
+use Rattle.svd.specs.Values.{tallyOf, reportOf, wordIn}
 use Rattle.svd.specs.Answers.{report-one}
 use Rattle.svd.specs.Told.{reportsOf, listsOf, told-number, told-place, told-alone, told-refused, told-accepted}
-use Rattle.svd.specs.Told.{told-true, one-settled, settled-one, more-stopped, stopped-more, settled-fine}
+use Rattle.svd.specs.Told.{told-true, told-made, told-due, told-done}
+use Rattle.svd.specs.Told.{one-settled, settled-one, more-stopped, stopped-more, settled-fine}
 
 -- ---- what a call may answer
 
@@ -56,14 +57,18 @@ module _ (rows cols : ℕ) (s : Settings) (r : Report) where
 abbrev pub shownBy : State Work → Outcome
 shownBy e = outcomeOf (reported e) (e .held)
 
--- the state after k passes at credit 0, where a limit of n would have allowed more
-abbrev pub afterPasses : Bool → ℕ → ℕ → Settings → Work → ℕ → ℕ → State Work
-afterPasses kept rows cols s w₀ n k =
-    let z = packed kept rows cols in
-    let upper = isUpper rows cols in
-    let c = card rows cols in
-    let form = bidiagonal binary64 (s .floor) z upper c w₀ in
-    run (rulesOf binary64 z upper (s .tolerance) (s .absolute)) n 0 k (start c form)
+module _ (kept : Bool) (rows cols : ℕ) (s : Settings) (w₀ : Work) where
+  -- where the definition's walk starts: with the bidiagonal form
+  abbrev pub first : State Work
+  first = start (card rows cols) (formOf binary64 (packed kept rows cols) rows cols (settingsOf s) w₀)
+
+  -- when its coupling is negligible, and what a sweep does
+  abbrev pub rules : Rules Work
+  rules = rulesFor binary64 (packed kept rows cols) rows cols (settingsOf s)
+
+  -- after k passes
+  abbrev pub after : ℕ → State Work
+  after k = applied rules (s .credit) k first
 
 module _ (kept : Bool) (rows cols : ℕ) (s : Settings) (w₀ : Work) (r : Report) (w : Work) where
   -- ---- 1. what is unfit is refused, by number, in a fixed order, and nothing else is; a refused call writes nothing
@@ -84,14 +89,22 @@ module _ (kept : Bool) (rows cols : ℕ) (s : Settings) (w₀ : Work) (r : Repor
   pub record Demand2 : Type 0 where
     -- report, matrix, U and V are those of the definition's run: its bidiagonal form and then its walk
     pub equal : outcomeOf (reportOf r) w ≡ accepted binary64 kept rows cols (settingsOf s) w₀
-    -- at credit 0 the limit shows the state after as many passes
+    -- at credit 0 the limit shows the state after as many passes: where any greater limit n would have gone on
     pub exposed :
         s .credit ≡ 0 → (n : ℕ) → s .limit ≤ n →
-        outcomeOf (reportOf r) w ≡ shownBy (afterPasses kept rows cols s w₀ n (s .limit))
+        outcomeOf (reportOf r) w ≡
+        shownBy (run (rules kept rows cols s w₀) n 0 (s .limit) (first kept rows cols s w₀))
 
   -- ---- 3. the report is true
 
   pub record Demand3 : Type 0 where
+    -- the passes are those made: counts and lists are those after as many,
+    pub made :
+        let e = after kept rows cols s w₀ (r .tally .passes) in
+        (tallyOf (r .tally) ≡ e .walk .tally) × (w ≡ e .held)
+    -- before each of them there was one to do, and then none
+    pub due : (k : ℕ) → k < r .tally .passes → going (s .limit) (after kept rows cols s w₀ k .walk) ≡ true
+    pub done : going (s .limit) (after kept rows cols s w₀ (r .tally .passes) .walk) ≡ false
     -- each pass is a sweep or a drop
     pub each : r .tally .passes ≡ r .tally .sweeps + r .tally .drops
     -- a drop takes one from the range, which begins as c and never falls below 1
@@ -108,7 +121,8 @@ module _ (kept : Bool) (rows cols : ℕ) (s : Settings) (w₀ : Work) (r : Repor
 
 shown :
     (kept : Bool) (rows cols : ℕ) (s : Settings) (w₀ : Work) → s .credit ≡ 0 → (n : ℕ) → s .limit ≤ n →
-    accepted binary64 kept rows cols (settingsOf s) w₀ ≡ shownBy (afterPasses kept rows cols s w₀ n (s .limit))
+    accepted binary64 kept rows cols (settingsOf s) w₀ ≡
+    shownBy (run (rules kept rows cols s w₀) n 0 (s .limit) (first kept rows cols s w₀))
 unfolding accepted
 shown kept rows cols s w₀ z n h =
     ap shownBy (accepted-exposed binary64 kept rows cols (settingsOf s) w₀ (s .limit) n h z)
@@ -136,6 +150,9 @@ module _ {kept : Bool} {rows cols : ℕ} {s : Settings} {w₀ : Work} {r : Repor
   demand-3 a e =
       let t = told-true kept rows cols s w₀ r w (a .promise) e in
       record {
+        made = told-made kept rows cols s w₀ r w (a .promise) e;
+        due = told-due kept rows cols s w₀ r w (a .promise) e;
+        done = told-done kept rows cols s w₀ r w (a .promise) e;
         each = t .each;
         drops = t .drops;
         range = t .range;

@@ -7,13 +7,15 @@ use native.Mathlib.Omega.{arith}
 use lib.Dec.{ltb, eqb}
 use lib.Ieee.{binary64}
 use borrow.Author.Tests.{ltb-true, ltb-false, eqb-true, eqb-false}
-use Rattle.method.specs.Work.{Work}
+use Rattle.method.specs.Work.{Work, packed}
+use Rattle.method.specs.Walk.{Tally, State, start, going}
+use Rattle.method.specs.Walk.Applied.{applied, Applied, walked-applied}
 use Rattle.method.specs.Checks as Checks
 use Rattle.method.specs.Checks.{refusalOf}
 use Rattle.method.specs.Checks.Table.{place, fit}
 use Rattle.method.specs.Report as Report
 use Rattle.method.specs.Report.{refused}
-use Rattle.method.specs.Outcome.{Outcome, outcomeOf, card, accepted, outcome}
+use Rattle.method.specs.Outcome.{Outcome, outcomeOf, card, rulesFor, formOf, walkedFrom, accepted, outcome}
 use Rattle.method.specs.Outcome.Refused.{refused-outcome, accepted-outcome, outcome-number}
 use Rattle.method.specs.Outcome.Reports.{TrueReport, accepted-true}
 use Rattle.checks.specs.declared.settings.Settings.{Settings}
@@ -21,7 +23,7 @@ use Rattle.checks.specs.Values.{settingsOf, refusalIn}
 use Rattle.svd.specs.declared.report.Report.{Report}
 use Rattle.svd.specs.declared.report.Word.{Word}
 use Rattle.svd.specs.declared.report.Word.the-variants.{None, Settled, Stopped}
-use Rattle.svd.specs.Values.{reportOf}
+use Rattle.svd.specs.Values.{tallyOf, reportOf}
 use Rattle.svd.specs.Answers.{word-one}
 
 -- the report, and the lists, of an equation between two outcomes
@@ -40,6 +42,24 @@ numbered Stopped = 2
 module _ (kept : Bool) (rows cols : ℕ) (s : Settings) (w₀ : Work) (r : Report) (w : Work) where
   abbrev found : Checks.Refusal
   found = refusalOf kept rows cols (settingsOf s) w₀
+
+  -- the walk's end, and the state after k passes
+  abbrev ends : State Work
+  ends = walkedFrom binary64 (packed kept rows cols) rows cols (settingsOf s) w₀
+
+  abbrev passed : ℕ → State Work
+  passed k =
+      let z = packed kept rows cols in
+      applied (rulesFor binary64 z rows cols (settingsOf s)) (s .credit) k
+      (start (card rows cols) (formOf binary64 z rows cols (settingsOf s) w₀))
+
+  made :
+      let z = packed kept rows cols in
+      let first = start (card rows cols) (formOf binary64 z rows cols (settingsOf s) w₀) in
+      Applied (rulesFor binary64 z rows cols (settingsOf s)) (s .limit) (s .credit) first ends
+  made =
+      let z = packed kept rows cols in
+      walked-applied (rulesFor binary64 z rows cols (settingsOf s)) (s .limit) (s .credit) (card rows cols) _
 
   module _ (a : outcomeOf (reportOf r) w ≡ outcome binary64 kept rows cols (settingsOf s) w₀) where
     -- the number that is told is the refusal's
@@ -98,6 +118,28 @@ module _ (kept : Bool) (rows cols : ℕ) (s : Settings) (w₀ : Work) (r : Repor
           let k = fit kept rows cols (settingsOf s) w₀ (sym told-number ∙ e) in
           rw (reportsOf (told-accepted e))
           (accepted-true binary64 kept rows cols (settingsOf s) w₀ (k .rows-some) (k .cols-some))
+
+      -- counts and lists are those of the walk's end,
+      told-end : (tallyOf (r .tally) ≡ ends .walk .tally) × (w ≡ ends .held)
+      unfolding accepted
+      told-end = (ap (λ (o : Outcome). o .report .tally) (told-accepted e), listsOf (told-accepted e))
+
+      told-passes : r .tally .passes ≡ ends .walk .tally .passes
+      told-passes = ap (λ (t : Tally). t .passes) (told-end .0)
+
+      -- which is the state after as many passes as are told,
+      pub told-made : (tallyOf (r .tally) ≡ passed (r .tally .passes) .walk .tally) × (w ≡ passed (r .tally .passes) .held)
+      told-made =
+          let q = made .counted ∙ ap passed (sym told-passes) in
+          (told-end .0 ∙ ap (λ (x : State Work). x .walk .tally) q, told-end .1 ∙ ap (λ (x : State Work). x .held) q)
+
+      -- before each of which there was one to do,
+      pub told-due : (k : ℕ) → k < r .tally .passes → going (s .limit) (passed k .walk) ≡ true
+      told-due k h = made .each k (rw told-passes at h)
+
+      -- and then none
+      pub told-done : going (s .limit) (passed (r .tally .passes) .walk) ≡ false
+      told-done = rw (told-passes, ← made .counted) (made .ended)
 
       pub one-settled : r .tally .range ≡ 1 → r .word ≡ Settled
       one-settled q = word-one (r .word) Settled (told-true .settled q)
