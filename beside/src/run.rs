@@ -34,6 +34,15 @@ pub struct Reply {
     pub v: Vec<f64>,
 }
 
+impl Reply {
+    /// Another value of one bit of a word of the report.
+    pub fn flip(&mut self, word: usize, bit: usize) {
+        let mut words = self.report.words();
+        words[word] ^= 1 << bit;
+        self.report = words.into();
+    }
+}
+
 /// The same float, every NaN counted as one.
 pub fn same(a: f64, b: f64) -> bool {
     a.to_bits() == b.to_bits() || (a.is_nan() && b.is_nan())

@@ -129,9 +129,7 @@ fn a_bit_of_a_reply_is_seen() {
         }
         let many = Report::NAMES.len();
         for at in 1..many {
-            let mut other = right.report.words();
-            other[at] ^= 1;
-            seen(&|reply| reply.report = other.into(), lists - many + at);
+            seen(&|reply| reply.flip(at, 0), lists - many + at);
         }
     }
 }
