@@ -44,14 +44,15 @@ rulesOf f z upper tolerance absolute =
       sweep = λ r w. swept f z upper (r - 2) w;
     }
 
+-- the same from sizes and settings
 abbrev pub rulesFor : Format → Shape → ℕ → ℕ → Settings → Rules Work
 rulesFor f z rows cols s = rulesOf f z (isUpper rows cols) (s .tolerance) (s .absolute)
 
--- the bidiagonal form
+-- the bidiagonal form that a run starts from
 abbrev pub formOf : Format → Shape → ℕ → ℕ → Settings → Work → Work
 formOf f z rows cols s w = bidiagonal f (s .floor) z (isUpper rows cols) (card rows cols) w
 
--- and then the walk
+-- the run: the bidiagonal form, and then the walk
 abbrev pub walkedFrom : Format → Shape → ℕ → ℕ → Settings → Work → State Work
 walkedFrom f z rows cols s w =
     walked (rulesFor f z rows cols s) (s .limit) (s .credit) (card rows cols) (formOf f z rows cols s w)

@@ -29,7 +29,9 @@ module _ {D : Type 0} (rules : Rules D) (limit credit : ℕ) where
   -- a pass is counted, be it a drop or a sweep
   pub pass-counted : (s : State D) → pass rules credit s .walk .tally .passes ≡ suc (s .walk .tally .passes)
   pass-counted s =
-      pass-keeps rules credit (λ s′. s′ .walk .tally .passes ≡ suc (s .walk .tally .passes)) s (omega arith) (omega arith)
+      pass-keeps rules credit (λ s′. s′ .walk .tally .passes ≡ suc (s .walk .tally .passes)) s
+      (omega arith)
+      (omega arith)
 
   module _ (s : State D) where
     -- what holds of every state on the way
