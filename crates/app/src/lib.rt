@@ -17,6 +17,7 @@ ghost use Rattle.method.specs.Work.{work};
 ghost use Rattle.method.specs.Defaults.{defaults};
 ghost use Rattle.method.specs.Fill.{filled, fillOutcome};
 ghost use Rattle.method.specs.Outcome.{fullOutcome, plainOutcome};
+ghost use Rattle.float.specs.Root.{RootIs};
 ghost use Rattle.checks.specs.Values.{settingsOf as settingsBeneath};
 ghost use Rattle.svd.specs.Values.{reportOf, wordIn};
 ghost use Rattle.app.specs.Values.{numbered, answerOf, answered, told, chosen, settingsOf, layout};
@@ -173,7 +174,8 @@ pub extern "C" fn merotunki_row<'a>(
 // The root of x, the nearest double to it.
 #[no_mangle]
 pub extern "C" fn merotunki_square_root(x: f64) -> f64
-    ensures { λ r. ⌜ r ≡ squareRoot binary64 x ⌝ }
+    ensures value { λ r. ⌜ r ≡ squareRoot binary64 x ⌝ }
+    ensures nearest { λ r. ⌜ RootIs x r ⌝ }
 {
     float::square_root(x)
 }
