@@ -9,7 +9,6 @@ use lib.ListN.{length, take, drop}
 use lib.Ieee.{Float}
 use borrow.Author.Tests.{ltb-true, ltb-false, eq-eqb, ne-eqb}
 use Rattle.method.specs.Floats.{pick}
-use Rattle.method.specs.Settings.{mostSize}
 use Rattle.method.specs.View.{viewFit, rowViewed}
 use Rattle.method.specs.View.Rows.{ViewFit, view-fit, row-viewed, row-refused}
 use Rattle.method.specs.Index.{row-in, few}
@@ -101,29 +100,10 @@ module _ (rows cols : ℕ) (u v : List Float) (side k : ℕ) where
 -- ---- the test itself
 
 -- sizes and lengths are fit: side and row are left
-pub record SizesFit (rows cols : ℕ) (u v : List Float) : Type 0 where
-  pub rows-some : 1 ≤ rows
-  pub cols-some : 1 ≤ cols
-  pub rows-few : rows ≤ mostSize
-  pub cols-few : cols ≤ mostSize
-  pub u-length : length u ≡ rows * rows
-  pub v-length : length v ≡ cols * cols
-
-module _ {rows cols : ℕ} {u v : List Float} (fit : SizesFit rows cols u v) (side k : ℕ) where
-  made : side ≤ 1 → k < pick (eqb side 0) rows cols → ViewFit rows cols u v side k
-  made known below =
-      record {
-        rows-some = fit .rows-some;
-        cols-some = fit .cols-some;
-        rows-few = fit .rows-few;
-        cols-few = fit .cols-few;
-        u-length = fit .u-length;
-        v-length = fit .v-length;
-        side-known = known;
-        row-below-size = below;
-      }
-
-  -- the row's test is left, against the size n of the side
+module _
+    {rows cols : ℕ} {u v : List Float} {side k : ℕ}
+    (made : side ≤ 1 → k < pick (eqb side 0) rows cols → ViewFit rows cols u v side k) where
+  -- the row's test, against the size n of the side
   of-side : (n : ℕ) → side ≤ 1 → pick (eqb side 0) rows cols ≡ n → ltb k n ≡ viewFit rows cols u v side k
   of-side n known e = go (ltb k n) refl
     where

@@ -8,7 +8,7 @@ use mathlib.Core.Bool.{Bool, true, false, not, true≢false}
 use lib.IntN.{ℤ, pos, negsuc}
 use lib.Dec.{T, leb, ltb, eqb→eq, lt→ltb, le→leb}
 use lib.Pow.{pow-pos}
-use lib.Ieee.{Float, nan, inf, fin, binary64, up, down, fits, isNan, ofBits, toBits, div}
+use lib.Ieee.{Float, nan, inf, fin, binary64, up, down, fits, isNan, ofBits, toBits}
 use lib.Ieee.Bits.{ofBits-toBits, is-true, nanBits-is, nanBits-above}
 use lib.Ieee.Positive.{positive}
 use Rattle.method.specs.Root.{square, rooted, squareRoot}
@@ -91,8 +91,3 @@ at-negative x F n h z = go (less-or-not (toBits binary64 x) (2 ^ 63))
     go : (toBits binary64 x < 2 ^ 63) ⊎ (2 ^ 63 ≤ toBits binary64 x) → nan ≡ squareRoot binary64 x
     go (inl l) = absurd (above-is-nan (toBits binary64 x) h l n′)
     go (inr g) = signed-root x F (bits-signed x F n ∙ is-true (leb (2 ^ 63) (toBits binary64 x)) (le→leb (2 ^ 63) (toBits binary64 x) g)) z
-
--- 0.0 / 0.0, by the patterns of its literals
-pub zero-by-zero : div binary64 (ofBits binary64 0) (ofBits binary64 0) ≡ nan
-unfolding div ofBits
-zero-by-zero = refl

@@ -65,7 +65,8 @@ case (inf true) = is-below refl
 case (inf false) = is-infinity refl
 case (fin s zero e) =
     is-zero
-    (rw (eq-eqb (0 * up e * 1) (0 * 1 * down e) (omega arith), eq-eqb (0 * up e * 1) 0 (omega arith)) (either (Bool·beq s false)))
+    (rw (eq-eqb (0 * up e * 1) (0 * 1 * down e) (omega arith), eq-eqb (0 * up e * 1) 0 (omega arith))
+    (either (Bool·beq s false)))
   where
     either : (b : Bool) → (b || true) ≡ true
     either true = refl
@@ -134,7 +135,8 @@ root-is x r a promise =
           let n = subst (λ (y : Float). Nearest binary64 x y) (sym promise) (squareRoot-nearest binary64 x held p) in
           record {
             nearest = n;
-            enclosed = subst (λ (y : Float). Enclosed binary64 x y) (sym promise) (squareRoot-enclosed binary64 x held p);
+            enclosed =
+                subst (λ (y : Float). Enclosed binary64 x y) (sym promise) (squareRoot-enclosed binary64 x held p);
             only = λ y o. nearest-unique binary64 x y r o n;
           };
       at-zero = λ h. promise ∙ zero-stays x h;

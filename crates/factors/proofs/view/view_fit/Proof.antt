@@ -1,11 +1,14 @@
 -- `view_fit` meets its contract: one test after another, and the row's is the last. Assumes nothing.
 use mathlib.Core.Path.{_≡_}
 use mathlib.Core.Bool.{false}
+use Prim.Native.Nat.{_≤_, _<_}
 use native.Mathlib.Omega.{arith}
+use lib.Dec.{eqb}
+use Rattle.method.specs.Floats.{pick}
 use Rattle.method.specs.Index.{few}
 use Rattle.method.specs.View.{viewFit}
 use Rattle.method.specs.View.Rows.{ViewFit}
-use Rattle.factors.specs.View.{SizesFit, not-fit, fit-u, fit-v}
+use Rattle.factors.specs.View.{not-fit, fit-u, fit-v}
 use Rattle.factors.proofs.view.view_fit.Statement.{statement}
 use Rattle.factors.proofs.view.view_fit.Tie as tie
 
@@ -47,11 +50,13 @@ mul-if6 c =
 returns-6 : tie.Need-returns-6
 returns-6 c = no (c .before .before .before .before .before .before) (λ x. c .if6 .taken (x .v-length))
 
--- past the first six tests sizes and lengths are fit
+-- past the first six tests sizes and lengths are fit, and side and row are left
 sizes :
     (c : tie.Else6) → let at-start = c .before .before .before .before .before .before in
-    SizesFit (at-start .args .rows) (at-start .args .cols) (at-start .args .u .now) (at-start .args .v .now)
-sizes c =
+    at-start .args .side ≤ 1 →
+    at-start .args .row < pick (eqb (at-start .args .side) 0) (at-start .args .rows) (at-start .args .cols) →
+    Fit at-start
+sizes c known below =
     record {
       rows-some = omega arith;
       cols-some = omega arith;
@@ -59,13 +64,15 @@ sizes c =
       cols-few = omega arith;
       u-length = c .before .if5 .left;
       v-length = c .if6 .left;
+      side-known = known;
+      row-below-size = below;
     }
 
 returns-7 : tie.Need-returns-7
-returns-7 c = fit-u (sizes (c .before)) _ _ (c .if7 .taken)
+returns-7 c = fit-u (sizes (c .before)) (c .if7 .taken)
 
 returns-8 : tie.Need-returns-8
-returns-8 c = fit-v (sizes (c .before .before)) _ _ (c .if8 .taken)
+returns-8 c = fit-v (sizes (c .before .before)) (c .if8 .taken)
 
 returns-9 : tie.Need-returns-9
 returns-9 c = no (c .before .before .before .before .before .before .before .before) (λ x. omega (arith, x .side-known))
