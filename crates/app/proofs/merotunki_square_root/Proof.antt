@@ -1,4 +1,4 @@
--- `merotunki_square_root` meets its contract: it is the root of the call beneath, and its argument is an f64. Assumes nothing.
+-- `merotunki_square_root` meets its contract: it is the root beneath, and its argument is an f64. Assumes nothing.
 use borrow.Author.Needs.{needs}
 use Rattle.float.specs.Root.{root-is}
 use Rattle.app.proofs.merotunki_square_root.Statement.{statement}
