@@ -1,4 +1,4 @@
--- After i turns the first i of the diagonal are 1. Assumes nothing.
+-- `ones` meets its contract: after i turns the first i of the diagonal are 1. Assumes nothing.
 use borrow.Author.Needs.{needs}
 use Prim.Native.Nat.{_+_, _-_, _*_, _≤_}
 use mathlib.Core.Path.{_≡_, refl, ap, _∙_}
