@@ -7,12 +7,12 @@ use native.Mathlib.Nat.{zero-lt-suc, mul-pos}
 use native.Mathlib.Omega.{arith}
 use lib.Dec.{T, eqb, eqb→eq, ltb→lt, lt→ltb}
 use lib.Ieee.{Float, nan, inf, fin, binary64, up, down, isNan, eq, lt, fits, ofBits, toBits}
-use lib.Ieee.Bits.{ofBits-toBits}
+use lib.Ieee.Bits.{ofBits-toBits, ofBits-fits}
 use lib.Ieee.Fits.{up-pos, and-l}
 use lib.Ieee.Scale.{finite}
 use lib.Ieee.Positive.{positive, first-pos}
 use borrow.Author.Tests.{eq-eqb, lt-ltb}
-use denote.Floats.{passes, float-vals}
+use denote.Floats.{passes, is-true, float-vals}
 use denote.Builtin.{f64}
 use denote.Laws.{Is}
 use Rattle.method.specs.Floats.{plusZero}
@@ -144,3 +144,9 @@ root-is x r a promise =
       at-nan = λ h. promise ∙ nan-stays x h;
       at-infinity = λ h. promise ∙ infinity-stays x h;
     }
+
+-- the same of the value of any bit pattern, with no premise but the promise
+pub root-of-pattern : (p : ℕ) (r : Float) → r ≡ squareRoot binary64 (ofBits binary64 p) → RootIs (ofBits binary64 p) r
+root-of-pattern p r promise =
+    let x = ofBits binary64 p in
+    root-is x r (refl, is-true (fits binary64 x) (ofBits-fits binary64 p)) promise
