@@ -1,7 +1,7 @@
 -- Where a row lies within U or V, and that it is the row which the method views. Assumes nothing.
 use mathlib.Core.Path.{_≡_, refl, sym, ap, _∙_}
 use mathlib.Core.Bool.{Bool, true, false, true≢false}
-use mathlib.Core.List.{List}
+use mathlib.Core.List.{List, []}
 use Prim.Native.Nat.{ℕ, _*_, _≤_}
 use native.Mathlib.Omega.{arith}
 use lib.Dec.{eqb}
@@ -9,7 +9,8 @@ use lib.ListN.{length, take, drop}
 use lib.Ieee.{Float}
 use Rattle.method.specs.Floats.{pick}
 use Rattle.method.specs.Index.{few}
-use Rattle.method.specs.View.{viewFit, rowViewed}
+use Rattle.method.specs.Settings.{mostSize}
+use Rattle.method.specs.View.{rowOf, viewFit, rowViewed}
 use Rattle.method.specs.View.Rows.{view-fit, row-viewed, row-viewed-length, row-refused}
 use Rattle.app.specs.declared.Part.{Part}
 
@@ -30,6 +31,10 @@ pub record Lies (rows cols : ℕ) (u v : List Float) (side k n : ℕ) : Type 0 w
   pub sought : part (k * n) n ≡ partOf rows cols u v side k
 
 module _ (rows cols : ℕ) (u v : List Float) (side k : ℕ) where
+  -- where the view is not fit it has no entries
+  none : viewFit rows cols u v side k ≡ false → rowViewed rows cols u v side k ≡ []
+  none t = row-refused rows cols u v side k (λ x. true≢false (sym (view-fit rows cols u v side k .1 x) ∙ t))
+
   -- the part that a view shows is its row
   pub part-row :
       let p = partOf rows cols u v side k in
@@ -37,7 +42,9 @@ module _ (rows cols : ℕ) (u v : List Float) (side k : ℕ) where
   unfolding partOf
   part-row = go (viewFit rows cols u v side k) refl
     where
-      sides : (b : Bool) → take (pick b rows cols) (drop (k * pick b rows cols) (pick b u v)) ≡ pick b (take rows (drop (k * rows) u)) (take cols (drop (k * cols) v))
+      sides :
+          (b : Bool) →
+          take (pick b rows cols) (drop (k * pick b rows cols) (pick b u v)) ≡ pick b (rowOf rows k u) (rowOf cols k v)
       sides true = refl
       sides false = refl
 
@@ -45,8 +52,10 @@ module _ (rows cols : ℕ) (u v : List Float) (side k : ℕ) where
           (b : Bool) → viewFit rows cols u v side k ≡ b →
           let p = partOf rows cols u v side k in
           take (p .length) (drop (p .start) (pick (eqb side 0) u v)) ≡ rowViewed rows cols u v side k
-      go true t = rw (t, partOf) (sides (eqb side 0) ∙ sym (row-viewed rows cols u v side k (view-fit rows cols u v side k .0 t)))
-      go false t = rw (t, partOf) (sym (row-refused rows cols u v side k (λ x. true≢false (sym (view-fit rows cols u v side k .1 x) ∙ t))))
+      go true t =
+          rw (t, partOf)
+          (sides (eqb side 0) ∙ sym (row-viewed rows cols u v side k (view-fit rows cols u v side k .0 t)))
+      go false t = rw (t, partOf) (sym (none t))
 
   module _ (l : List Float) (e : l ≡ rowViewed rows cols u v side k) where
     -- a view without entries
@@ -66,7 +75,7 @@ module _ (rows cols : ℕ) (u v : List Float) (side k : ℕ) where
     unfolding partOf
     lies h = go (viewFit rows cols u v side k) refl
       where
-        low : (b : Bool) → k ≤ pick b rows cols → rows ≤ 48 → cols ≤ 48 → k * pick b rows cols ≤ 3072
+        low : (b : Bool) → k ≤ pick b rows cols → rows ≤ mostSize → cols ≤ mostSize → k * pick b rows cols ≤ 3072
         low true g r c = few k rows (omega (arith, g, r)) (omega (arith, r))
         low false g r c = few k cols (omega (arith, g, c)) (omega (arith, c))
 
@@ -78,4 +87,4 @@ module _ (rows cols : ℕ) (u v : List Float) (side k : ℕ) where
               near = rw n (low (eqb side 0) (omega (arith, x .row-below-size)) (x .rows-few) (x .cols-few));
               sought = rw (n, t, partOf) refl;
             }
-        go false t = absurd (h (ap length e ∙ ap length (row-refused rows cols u v side k (λ x. true≢false (sym (view-fit rows cols u v side k .1 x) ∙ t)))))
+        go false t = absurd (h (ap length e ∙ ap length (none t)))

@@ -41,10 +41,12 @@ told o = answered (answerOf (o .report)) (o .held)
 
 -- five settings
 abbrev pub chosen : ℕ → ℕ → Float → Float → Float → Settings
-chosen limit credit tolerance absolute floor = record { limit = limit; credit = credit; tolerance = tolerance; absolute = absolute; floor = floor }
+chosen limit credit tolerance absolute floor =
+    record { limit = limit; credit = credit; tolerance = tolerance; absolute = absolute; floor = floor }
 
-abbrev pub settingsOf : Choice → Settings
-settingsOf c = chosen (c .limit) (c .credit) (c .tolerance) (c .absolute) (c .floor)
+-- the settings that a choice stands for
+abbrev pub ofChoice : Choice → Settings
+ofChoice c = chosen (c .limit) (c .credit) (c .tolerance) (c .absolute) (c .floor)
 
 -- which layout of the structs that cross the border this is: it rises by one whenever one of them changes
 abbrev pub layout : ℕ

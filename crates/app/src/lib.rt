@@ -17,9 +17,10 @@ ghost use Rattle.method.specs.Work.{work};
 ghost use Rattle.method.specs.Defaults.{defaults};
 ghost use Rattle.method.specs.Fill.{filled, fillOutcome};
 ghost use Rattle.method.specs.Outcome.{fullOutcome, plainOutcome};
-ghost use Rattle.checks.specs.Values.{settingsOf as settingsBeneath};
+ghost use Rattle.float.specs.Root.{RootIs};
+ghost use Rattle.checks.specs.Values.{settingsOf};
 ghost use Rattle.svd.specs.Values.{reportOf, wordIn};
-ghost use Rattle.app.specs.Values.{numbered, answerOf, answered, told, chosen, settingsOf, layout};
+ghost use Rattle.app.specs.Values.{numbered, answerOf, answered, told, chosen, ofChoice, layout};
 ghost use Rattle.app.specs.Row.{partOf};
 
 // What a call answers. The word is 0 in a refusal, 1 where the table settled and 2 where the walk
@@ -80,7 +81,7 @@ fn tell(report: Report) -> Answer
 }
 
 fn choose(limit: usize, credit: usize, tolerance: f64, absolute: f64, floor: f64) -> Settings
-    ensures { λ r. ⌜ settingsBeneath r ≡ chosen limit credit tolerance absolute floor ⌝ }
+    ensures { λ r. ⌜ settingsOf r ≡ chosen limit credit tolerance absolute floor ⌝ }
 {
     Settings {
         limit: limit,
@@ -104,7 +105,8 @@ pub extern "C" fn merotunki_svd(
     floor: f64,
 ) -> Answer
     ensures { λ r. ⌜ answered r (work (now (matrix .exit)) [] [])
-        ≡ told (plainOutcome binary64 rows cols (chosen limit credit tolerance absolute floor) (now (matrix .entry))) ⌝ }
+        ≡ told (plainOutcome binary64 rows cols (chosen limit credit tolerance absolute floor)
+        (now (matrix .entry))) ⌝ }
 {
     let settings = choose(limit, credit, tolerance, absolute, floor);
     let report = svd_decomposition(matrix, rows, cols, settings);
@@ -173,7 +175,8 @@ pub extern "C" fn merotunki_row<'a>(
 // The root of x, the nearest double to it.
 #[no_mangle]
 pub extern "C" fn merotunki_square_root(x: f64) -> f64
-    ensures { λ r. ⌜ r ≡ squareRoot binary64 x ⌝ }
+    ensures value { λ r. ⌜ r ≡ squareRoot binary64 x ⌝ }
+    ensures nearest { λ r. ⌜ RootIs x r ⌝ }
 {
     float::square_root(x)
 }
@@ -181,7 +184,7 @@ pub extern "C" fn merotunki_square_root(x: f64) -> f64
 // The default settings.
 #[no_mangle]
 pub extern "C" fn merotunki_defaults() -> Choice
-    ensures { λ r. ⌜ settingsOf r ≡ defaults ⌝ }
+    ensures { λ r. ⌜ ofChoice r ≡ defaults ⌝ }
 {
     let settings = Settings::new();
     Choice {

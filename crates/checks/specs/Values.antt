@@ -6,7 +6,14 @@ use Rattle.checks.specs.declared.refusal.Refusal.{Refusal}
 
 -- the settings
 abbrev pub settingsOf : Settings → Method.Settings
-settingsOf s = record { limit = s .limit; credit = s .credit; tolerance = s .tolerance; absolute = s .absolute; floor = s .floor }
+settingsOf s =
+    record {
+      limit = s .limit;
+      credit = s .credit;
+      tolerance = s .tolerance;
+      absolute = s .absolute;
+      floor = s .floor;
+    }
 
 -- a refusal
 abbrev pub refusalIn : Refusal → Checks.Refusal

@@ -3,13 +3,18 @@ ghost use mathlib.Core.Path.{_≡_};
 ghost use mathlib.Core.Bool.{true, not, _&&_, _||_};
 ghost use lib.Dec.{eqb, ltb};
 ghost use Rattle.method.specs.Work.{work};
-ghost use Rattle.method.specs.Checks.{boundFit, floorFit, firstOf, refusal, refusalOf, sizeChecks, lengthChecks, settingChecks, readingChecks};
+ghost use Rattle.method.specs.Settings.{mostSize, mostLimit, mostCredit};
+ghost use Rattle.method.specs.Checks.{boundFit, floorFit, firstOf, refusal, refusalOf};
+ghost use Rattle.method.specs.Checks.{sizeChecks, lengthChecks, settingChecks, readingChecks};
 ghost use Prim.Native.Nat.{_*_, _≤_};
 ghost use lib.ListN.{length};
 ghost use Rattle.checks.specs.Values.{settingsOf, refusalIn};
 use crate::search::first_bad;
 use crate::search::is_finite;
 use crate::settings::Settings;
+
+// The most rows and the most columns of a table: `mostSize` of method.
+const MOST_SIZE: usize = 48;
 
 // The number of a refusal and its place; both 0 where there is none.
 pub struct Refusal {
@@ -33,9 +38,9 @@ fn no_size(rows: usize, cols: usize) -> bool
 }
 
 fn too_large(rows: usize, cols: usize) -> bool
-    ensures { λ r. ⌜ r ≡ (ltb 48 rows || ltb 48 cols) ⌝ }
+    ensures { λ r. ⌜ r ≡ (ltb mostSize rows || ltb mostSize cols) ⌝ }
 {
-    rows > 48 || cols > 48
+    rows > MOST_SIZE || cols > MOST_SIZE
 }
 
 // A list that the call keeps has another length than it must.
@@ -46,9 +51,9 @@ fn wrong_length(kept: bool, len: usize, whole: usize) -> bool
 }
 
 fn over_limit(s: Settings) -> bool
-    ensures { λ r. ⌜ r ≡ (ltb 100000 (s .limit) || ltb 1000 (s .credit)) ⌝ }
+    ensures { λ r. ⌜ r ≡ (ltb mostLimit (s .limit) || ltb mostCredit (s .credit)) ⌝ }
 {
-    s.limit > 100000 || s.credit > 1000
+    s.limit > Settings::MOST_LIMIT || s.credit > Settings::MOST_CREDIT
 }
 
 // Finite and not below zero.
@@ -92,7 +97,7 @@ fn size_refusal(rows: usize, cols: usize) -> Refusal
 
 // The plain call keeps no factors, and has no 4 and 5.
 fn length_refusal(b: &[f64], u: &[f64], v: &[f64], kept: bool, rows: usize, cols: usize) -> Refusal
-    requires { ⌜ (rows ≤ 48) × (cols ≤ 48) ⌝ }
+    requires { ⌜ (rows ≤ mostSize) × (cols ≤ mostSize) ⌝ }
     ensures { λ r. ⌜ refusalIn r
         ≡ firstOf (lengthChecks kept rows cols (work (now (b .entry)) (now (u .entry)) (now (v .entry)))) ⌝ }
 {
@@ -121,7 +126,7 @@ fn setting_refusal(s: Settings) -> Refusal
 }
 
 fn reading_refusal(b: &[f64], rows: usize, cols: usize) -> Refusal
-    requires { ⌜ (length (now b) ≡ rows * cols) × (rows ≤ 48) × (cols ≤ 48) ⌝ }
+    requires { ⌜ (length (now b) ≡ rows * cols) × (rows ≤ mostSize) × (cols ≤ mostSize) ⌝ }
     ensures { λ r. ⌜ refusalIn r ≡ firstOf (readingChecks (now (b .entry))) ⌝ }
 {
     let at = first_bad(b, rows, cols);

@@ -3,6 +3,7 @@ ghost use mathlib.Core.Path.{_≡_};
 ghost use Prim.Native.Nat.{_*_, _≤_};
 ghost use lib.ListN.{length};
 ghost use lib.Ieee.Scale.{finite};
+ghost use Rattle.method.specs.Settings.{mostSize};
 ghost use Rattle.method.specs.Checks.{firstBad};
 
 // Whether x is neither infinite nor NaN.
@@ -16,7 +17,7 @@ pub(crate) fn is_finite(x: f64) -> bool
 // The flat index of the first reading that is infinite or NaN, where the search stops at once; as
 // many as there are readings where there is none.
 pub(crate) fn first_bad(b: &[f64], rows: usize, cols: usize) -> usize
-    requires { ⌜ (length (now b) ≡ rows * cols) × (rows ≤ 48) × (cols ≤ 48) ⌝ }
+    requires { ⌜ (length (now b) ≡ rows * cols) × (rows ≤ mostSize) × (cols ≤ mostSize) ⌝ }
     ensures { λ r. ⌜ r ≡ firstBad (now (b .entry)) ⌝ }
 {
     let mut found = rows * cols;

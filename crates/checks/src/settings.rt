@@ -1,4 +1,4 @@
-// The settings of a call. All defaults are constants of the type itself.
+// The settings of a call. All defaults and bounds are constants of the type itself.
 ghost use mathlib.Core.Path.{_≡_};
 ghost use Rattle.method.specs.Defaults.{defaults};
 ghost use Rattle.checks.specs.Values.{settingsOf};
@@ -29,6 +29,11 @@ impl Settings {
     pub const ABSOLUTE: f64 = 1e-12;
 
     pub const FLOOR: f64 = 1e-21;
+
+    // The greatest limit and the greatest credit: `mostLimit` and `mostCredit` of method.
+    pub const MOST_LIMIT: usize = 100000;
+
+    pub const MOST_CREDIT: usize = 1000;
 
     // The defaults.
     pub fn new() -> Settings

@@ -3,7 +3,9 @@ ghost use mathlib.Core.Path.{_≡_};
 ghost use Prim.Native.Nat.{_*_, _≤_};
 ghost use lib.ListN.{length, replicate};
 ghost use Rattle.method.specs.Floats.{plusZero};
+ghost use Rattle.method.specs.Settings.{mostSize};
 ghost use Rattle.method.specs.Fill.{identity, filled, fillOutcome};
+use crate::MOST_SIZE;
 
 // All n entries of a, set to 0.
 fn zeros(a: &mut [f64], n: usize)
@@ -17,7 +19,7 @@ fn zeros(a: &mut [f64], n: usize)
 
 // 1 down the diagonal of n x n zeros.
 fn ones(a: &mut [f64], n: usize)
-    requires { ⌜ (n ≤ 48) × (now a ≡ replicate (n * n) plusZero) ⌝ }
+    requires { ⌜ (n ≤ mostSize) × (now a ≡ replicate (n * n) plusZero) ⌝ }
     ensures { λ _. ⌜ now (a .exit) ≡ identity n ⌝ }
 {
     for i in 0..n {
@@ -34,7 +36,7 @@ pub fn identity_flat(a: &mut [f64], n: usize) -> usize
     if n == 0 {
         return 1;
     }
-    if n > 48 {
+    if n > MOST_SIZE {
         return 2;
     }
     if a.len() != n * n {

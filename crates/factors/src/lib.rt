@@ -2,3 +2,6 @@
 // public asks nothing of its caller.
 pub mod identity;
 pub mod view;
+
+// The most rows and the most columns of a table: `mostSize` of method.
+const MOST_SIZE: usize = 48;

@@ -1,8 +1,8 @@
 // The row view: a row of U or of V where it lies, without a copy.
 ghost use mathlib.Core.Path.{_≡_};
-ghost use mathlib.Core.Bool.{true, false};
-ghost use Prim.Native.Nat.{_+_, _*_};
 ghost use Rattle.method.specs.View.{viewFit, rowViewed};
+ghost use Rattle.factors.specs.View.{viewPlace};
+use crate::MOST_SIZE;
 
 // Whether sizes, lengths, side and row are fit.
 fn view_fit(rows: usize, cols: usize, u: &[f64], v: &[f64], side: usize, row: usize) -> bool
@@ -14,10 +14,10 @@ fn view_fit(rows: usize, cols: usize, u: &[f64], v: &[f64], side: usize, row: us
     if cols == 0 {
         return false;
     }
-    if rows > 48 {
+    if rows > MOST_SIZE {
         return false;
     }
-    if cols > 48 {
+    if cols > MOST_SIZE {
         return false;
     }
     if u.len() != rows * rows {
@@ -35,9 +35,9 @@ fn view_fit(rows: usize, cols: usize, u: &[f64], v: &[f64], side: usize, row: us
     false
 }
 
-// Row `row` of U (side 0) or of V (side 1). Its refusal is an empty part of U, given exactly where a
-// size is outside 1 to 48, a length is wrong, the side is above 1 or the row is not below the
-// side's size.
+// Row `row` of U (side 0) or of V (side 1), where it lies. Its refusal is an empty part at the start of
+// U, given exactly where a size is outside 1 to 48, a length is wrong, the side is above 1 or the row
+// is not below the side's size.
 pub fn row_view<'a>(
     rows: usize,
     cols: usize,
@@ -47,9 +47,8 @@ pub fn row_view<'a>(
     row: usize,
 ) -> &'a [f64]
     ensures entries { λ r. ⌜ now r ≡ rowViewed rows cols (now (u .entry)) (now (v .entry)) side row ⌝ }
-    ensures place { λ r. ⌜ ((viewFit rows cols (now (u .entry)) (now (v .entry)) side row ≡ false → (r .ptr .0 ≡ u .entry .ptr .0) × (r .ptr .1 ≡ u .entry .ptr .1))
-        × (viewFit rows cols (now (u .entry)) (now (v .entry)) side row ≡ true → side ≡ 0 → (r .ptr .0 ≡ u .entry .ptr .0) × (r .ptr .1 ≡ u .entry .ptr .1 + row * rows * 8))
-        × (viewFit rows cols (now (u .entry)) (now (v .entry)) side row ≡ true → (side ≡ 0 → ⊥) → (r .ptr .0 ≡ v .entry .ptr .0) × (r .ptr .1 ≡ v .entry .ptr .1 + row * cols * 8))) ⌝ }
+    ensures place { λ r. ⌜ r .ptr
+        ≡ viewPlace rows cols (now (u .entry)) (now (v .entry)) side row (u .entry .ptr) (v .entry .ptr) ⌝ }
 {
     if !view_fit(rows, cols, u, v, side, row) {
         return &u[0..0];

@@ -8,7 +8,7 @@ use mathlib.Core.Bool.{Bool, true, false, not, true≢false}
 use lib.IntN.{ℤ, pos, negsuc}
 use lib.Dec.{T, leb, ltb, eqb→eq, lt→ltb, le→leb}
 use lib.Pow.{pow-pos}
-use lib.Ieee.{Float, nan, inf, fin, binary64, up, down, fits, isNan, ofBits, toBits, div}
+use lib.Ieee.{Float, nan, inf, fin, binary64, up, down, fits, isNan, ofBits, toBits}
 use lib.Ieee.Bits.{ofBits-toBits, is-true, nanBits-is, nanBits-above}
 use lib.Ieee.Positive.{positive}
 use Rattle.method.specs.Root.{square, rooted, squareRoot}
@@ -19,7 +19,9 @@ use Rattle.float.proofs.Signs.{signed, bits-signed}
 use Rattle.float.proofs.Joined.{bits-positive}
 
 -- what holds of the value of a pattern holds of each value with that pattern
-pub at-pattern : (P : Float → Type 0) (x : Float) (b : ℕ) → T (fits binary64 x) → toBits binary64 x ≡ b → P (ofBits binary64 b) → P x
+pub at-pattern :
+    (P : Float → Type 0) (x : Float) (b : ℕ) → T (fits binary64 x) → toBits binary64 x ≡ b → P (ofBits binary64 b) →
+    P x
 at-pattern P x b F e p = subst P (ap (λ (z : ℕ). ofBits binary64 z) (sym e) ∙ ofBits-toBits binary64 x F) p
 
 -- ---- positive
@@ -33,7 +35,9 @@ field-some (suc x) t h = mul-pos (go t) (pow-pos x)
     go : (t : ℕ) → 0 < 2 ^ 52 + t
     go t = omega arith
 
-pub at-positive : (x : Float) → T (fits binary64 x) → 0 < toBits binary64 x → toBits binary64 x < 2047 * 2 ^ 52 → rooted binary64 (square binary64 (ofBits binary64 (toBits binary64 x))) ≡ squareRoot binary64 x
+pub at-positive :
+    (x : Float) → T (fits binary64 x) → 0 < toBits binary64 x → toBits binary64 x < 2047 * 2 ^ 52 →
+    rooted binary64 (square binary64 (ofBits binary64 (toBits binary64 x))) ≡ squareRoot binary64 x
 at-positive x F s h =
     let b = toBits binary64 x in
     let p : T (positive (ofBits binary64 b)) = bits-positive b h (subst (λ (z : ℕ). 0 < z) (sym (bits-count binary64 b h)) (field-some (b / 2 ^ 52) (b % 2 ^ 52) (go b s))) in
@@ -70,7 +74,9 @@ minus-zero-bits : (e : ℤ) → T (fits binary64 (fin true zero e)) → toBits b
 unfolding fits toBits
 minus-zero-bits e F = ap (λ (z : ℤ). toBits binary64 (fin true zero z)) (flat e (eqb→eq (up e * down e) 1 F))
 
-signed-root : (x : Float) → T (fits binary64 x) → signed x ≡ true → (toBits binary64 x ≡ 2 ^ 63 → ⊥) → nan ≡ squareRoot binary64 x
+signed-root :
+    (x : Float) → T (fits binary64 x) → signed x ≡ true → (toBits binary64 x ≡ 2 ^ 63 → ⊥) →
+    nan ≡ squareRoot binary64 x
 unfolding squareRoot
 signed-root nan F s n = refl
 signed-root (inf true) F s n = refl
@@ -79,7 +85,9 @@ signed-root (fin true zero e) F s n = absurd (n (minus-zero-bits e F))
 signed-root (fin true (suc m) e) F s n = refl
 signed-root (fin false m e) F s n = absurd (true≢false (sym s))
 
-pub at-negative : (x : Float) → T (fits binary64 x) → T (not (isNan x)) → 2047 * 2 ^ 52 < toBits binary64 x → (toBits binary64 x ≡ 2 ^ 63 → ⊥) → nan ≡ squareRoot binary64 x
+pub at-negative :
+    (x : Float) → T (fits binary64 x) → T (not (isNan x)) → 2047 * 2 ^ 52 < toBits binary64 x →
+    (toBits binary64 x ≡ 2 ^ 63 → ⊥) → nan ≡ squareRoot binary64 x
 at-negative x F n h z = go (less-or-not (toBits binary64 x) (2 ^ 63))
   where
     is : ofBits binary64 (toBits binary64 x) ≡ x
@@ -91,8 +99,3 @@ at-negative x F n h z = go (less-or-not (toBits binary64 x) (2 ^ 63))
     go : (toBits binary64 x < 2 ^ 63) ⊎ (2 ^ 63 ≤ toBits binary64 x) → nan ≡ squareRoot binary64 x
     go (inl l) = absurd (above-is-nan (toBits binary64 x) h l n′)
     go (inr g) = signed-root x F (bits-signed x F n ∙ is-true (leb (2 ^ 63) (toBits binary64 x)) (le→leb (2 ^ 63) (toBits binary64 x) g)) z
-
--- 0.0 / 0.0, by the patterns of its literals
-pub zero-by-zero : div binary64 (ofBits binary64 0) (ofBits binary64 0) ≡ nan
-unfolding div ofBits
-zero-by-zero = refl

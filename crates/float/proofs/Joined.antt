@@ -56,10 +56,13 @@ module _ (n X h : ℕ) (lo : 2 ^ 52 ≤ X) (hi : X < 2 ^ 54) (is : n ≡ X * 2 ^
       small x k = shl-lt 54 54 k
 
 -- ---- the value of a pattern between zero's and the infinity's
-count-some : (b d e : ℕ) → 0 < d → d * 2 ^ e ≡ count binary64 (ofBits binary64 b) * 2 ^ 1022 → 0 < count binary64 (ofBits binary64 b)
+count-some :
+    (b d e : ℕ) → 0 < d → d * 2 ^ e ≡ count binary64 (ofBits binary64 b) * 2 ^ 1022 →
+    0 < count binary64 (ofBits binary64 b)
 count-some b d e s v = first-pos (count binary64 (ofBits binary64 b)) (2 ^ 1022) (subst (λ (z : ℕ). 0 < z) v (mul-pos s (pow-pos e)))
 
-pub bits-positive : (b : ℕ) → b < 2047 * 2 ^ 52 → 0 < count binary64 (ofBits binary64 b) → T (positive (ofBits binary64 b))
+pub bits-positive :
+    (b : ℕ) → b < 2047 * 2 ^ 52 → 0 < count binary64 (ofBits binary64 b) → T (positive (ofBits binary64 b))
 bits-positive b h s =
     positive-of-value (ofBits binary64 b) (fieldCount binary64 (b / 2 ^ 52) (b % 2 ^ 52)) (2 ^ 1074) (bits-val binary64 b h)
     (subst (λ (z : ℕ). 0 < z) (bits-count binary64 b h) s)

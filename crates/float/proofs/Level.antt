@@ -57,7 +57,9 @@ turn n digits power l h =
     less p k = omega arith
 
 -- at the start, without a leading digit and with one
-pub start-low : (b : ℕ) → 0 < b → b < 2047 * 2 ^ 52 → b / 2 ^ 52 ≡ 0 → Level (count binary64 (ofBits binary64 b)) (b % 2 ^ 52) 1022
+pub start-low :
+    (b : ℕ) → 0 < b → b < 2047 * 2 ^ 52 → b / 2 ^ 52 ≡ 0 →
+    Level (count binary64 (ofBits binary64 b)) (b % 2 ^ 52) 1022
 start-low b s h z = record {
   value = ap (λ (k : ℕ). k * 2 ^ 1022) (sym (bits-count binary64 b h ∙ ap (λ (x : ℕ). fieldCount binary64 x (b % 2 ^ 52)) z));
   some = some b s z;
@@ -71,7 +73,9 @@ start-low b s h z = record {
     small : (b : ℕ) → b % 2 ^ 52 < 2 ^ 53
     small b = omega arith
 
-pub start-high : (b : ℕ) → b < 2047 * 2 ^ 52 → 0 < b / 2 ^ 52 → Level (count binary64 (ofBits binary64 b)) (b % 2 ^ 52 + 2 ^ 52) (b / 2 ^ 52 + 1021)
+pub start-high :
+    (b : ℕ) → b < 2047 * 2 ^ 52 → 0 < b / 2 ^ 52 →
+    Level (count binary64 (ofBits binary64 b)) (b % 2 ^ 52 + 2 ^ 52) (b / 2 ^ 52 + 1021)
 start-high b h z =
     let t = b % 2 ^ 52 in
     let x = b / 2 ^ 52 in

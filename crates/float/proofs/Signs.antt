@@ -36,7 +36,9 @@ unfolding odd
 odd-signed d s zero k l = refl
 odd-signed d s (suc q) k l = refl
 
-pick-signed : (a b s : Bool) (v : Float) → signed v ≡ s → T (not (isNan (cond a (cond b (inf s) nan) v))) → signed (cond a (cond b (inf s) nan) v) ≡ s
+pick-signed :
+    (a b s : Bool) (v : Float) → signed v ≡ s → T (not (isNan (cond a (cond b (inf s) nan) v))) →
+    signed (cond a (cond b (inf s) nan) v) ≡ s
 unfolding isNan
 pick-signed true true s v e n = refl
 pick-signed true false s v e n = absurd n
@@ -64,12 +66,15 @@ sign-is nan n = absurd n
 sign-is (inf s) n = refl
 sign-is (fin s m e) n = refl
 
-pub sign-clear : (x : Float) → T (fits binary64 x) → T (not (isNan x)) → toBits binary64 x < 2 ^ 63 → fin false 1 (pos 0) ≡ signOf x
+pub sign-clear :
+    (x : Float) → T (fits binary64 x) → T (not (isNan x)) → toBits binary64 x < 2 ^ 63 →
+    fin false 1 (pos 0) ≡ signOf x
 sign-clear x F n h =
     let b = toBits binary64 x in
     ap (λ (s : Bool). fin s 1 (pos 0)) (sym (bits-signed x F n ∙ is-false (leb (2 ^ 63) b) (lt→nleb (2 ^ 63) b h))) ∙ sign-is x n
 
-pub sign-set : (x : Float) → T (fits binary64 x) → T (not (isNan x)) → 2 ^ 63 ≤ toBits binary64 x → fin true 1 (pos 0) ≡ signOf x
+pub sign-set :
+    (x : Float) → T (fits binary64 x) → T (not (isNan x)) → 2 ^ 63 ≤ toBits binary64 x → fin true 1 (pos 0) ≡ signOf x
 sign-set x F n h =
     let b = toBits binary64 x in
     ap (λ (s : Bool). fin s 1 (pos 0)) (sym (bits-signed x F n ∙ is-true (leb (2 ^ 63) b) (le→leb (2 ^ 63) b h))) ∙ sign-is x n
@@ -80,7 +85,9 @@ unfolding odd magnitude
 odd-magnitude d s zero k l = refl
 odd-magnitude d s (suc q) k l = refl
 
-pick-magnitude : (a b s : Bool) (v w : Float) → v ≡ magnitude w → cond a (cond b (inf false) nan) v ≡ magnitude (cond a (cond b (inf s) nan) w)
+pick-magnitude :
+    (a b s : Bool) (v w : Float) → v ≡ magnitude w →
+    cond a (cond b (inf false) nan) v ≡ magnitude (cond a (cond b (inf s) nan) w)
 unfolding magnitude
 pick-magnitude true true s v w e = refl
 pick-magnitude true false s v w e = refl
@@ -91,7 +98,8 @@ unfolding ofFields
 fields-magnitude s zero t = odd-magnitude 53 s t 0 1074
 fields-magnitude s (suc x) t = pick-magnitude (eqb (suc x) 2047) (eqb t 0) s (odd 53 false (2 ^ 52 + t) x 1074) (odd 53 s (2 ^ 52 + t) x 1074) (odd-magnitude 53 s (2 ^ 52 + t) x 1074)
 
-pub cleared : (x : Float) (b : ℕ) → T (fits binary64 x) → b ≡ toBits binary64 x % 2 ^ 63 → ofBits binary64 b ≡ magnitude x
+pub cleared :
+    (x : Float) (b : ℕ) → T (fits binary64 x) → b ≡ toBits binary64 x % 2 ^ 63 → ofBits binary64 b ≡ magnitude x
 cleared x b F e =
     ofBits-is b
     ∙ ap (λ (s : Bool). ofFields binary64 s (b % 2 ^ 63 / 2 ^ 52) (b % 2 ^ 52)) (is-false (leb (2 ^ 63) b) (lt→nleb (2 ^ 63) b (low b t e)))
@@ -113,7 +121,9 @@ cleared x b F e =
     tail b t h = omega arith
 
 -- a magnitude is no NaN where x is none, so its pattern is none's
-pub cleared-no-nan : (x : Float) (b : ℕ) → T (fits binary64 x) → T (not (isNan x)) → b ≡ toBits binary64 x % 2 ^ 63 → T (not (nanBits binary64 b))
+pub cleared-no-nan :
+    (x : Float) (b : ℕ) → T (fits binary64 x) → T (not (isNan x)) → b ≡ toBits binary64 x % 2 ^ 63 →
+    T (not (nanBits binary64 b))
 unfolding magnitude isNan
 cleared-no-nan x b F n e = subst (λ (t : Bool). T (not t)) (sym (nanBits-is binary64 b ∙ ap isNan (cleared x b F e))) (go x n)
   where

@@ -101,7 +101,8 @@ fn normalised(bits: u64) -> Scaled
 // The pattern of the root of the value whose pattern is `bits`.
 fn root_bits(bits: u64) -> u64
     requires { ⌜ (0 < bits) × (bits < 2047 * 2 ^ 52) ⌝ }
-    ensures { λ r. ⌜ (r < 2047 * 2 ^ 52) × (ofBits binary64 r ≡ rooted binary64 (square binary64 (ofBits binary64 bits))) ⌝ }
+    ensures { λ r. ⌜ (r < 2047 * 2 ^ 52)
+        × (ofBits binary64 r ≡ rooted binary64 (square binary64 (ofBits binary64 bits))) ⌝ }
 {
     let s = normalised(bits);
     let half = s.power >> 1;

@@ -1,4 +1,4 @@
--- Field by field. Assumes nothing.
+-- `choose` meets its contract: field by field. Assumes nothing.
 use mathlib.Core.Path.{refl}
 use Rattle.app.proofs.choose.Statement.{statement}
 use Rattle.app.proofs.choose.Tie as tie

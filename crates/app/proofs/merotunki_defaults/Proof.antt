@@ -1,4 +1,4 @@
--- The defaults of the crate beneath, field by field. Assumes nothing.
+-- `merotunki_defaults` meets its contract: the defaults of the call beneath, field by field. Assumes nothing.
 use borrow.Author.Needs.{needs}
 use Rattle.app.proofs.merotunki_defaults.Statement.{statement}
 use Rattle.app.proofs.merotunki_defaults.Tie as tie

@@ -1,4 +1,5 @@
--- The report of the call beneath, told; the lists as it leaves them. Assumes nothing.
+-- `merotunki_full_svd` meets its contract: it tells the report of the call beneath, which leaves the lists. Assumes
+-- nothing.
 use borrow.Author.Needs.{needs}
 use Rattle.app.specs.Answers.{told-of}
 use Rattle.app.proofs.merotunki_full_svd.Statement.{statement}
@@ -11,4 +12,7 @@ returns c =
     told-of _ _ _ _ (c .tell .ensures) (rw (at-choose .choose .ensures) at (at-split .full-svd-decomposition .ensures))
 
 pub merotunki-full-svd-spec : {M : Type 1} → statement M
-merotunki-full-svd-spec = tie.close (tie.spec (λ c κs. search needs) (λ c κs. search needs) (λ c κs. search needs) (λ c. search needs) (λ c. search needs) (λ c. search needs) returns)
+merotunki-full-svd-spec =
+    tie.close
+    (tie.spec (λ c κs. search needs) (λ c κs. search needs) (λ c κs. search needs) (λ c. search needs)
+    (λ c. search needs) (λ c. search needs) returns)

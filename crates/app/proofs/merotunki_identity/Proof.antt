@@ -1,4 +1,4 @@
--- The fill beneath. Assumes nothing.
+-- `merotunki_identity` meets its contract: it is the fill beneath. Assumes nothing.
 use borrow.Author.Needs.{needs}
 use Rattle.app.proofs.merotunki_identity.Statement.{statement}
 use Rattle.app.proofs.merotunki_identity.Tie as tie

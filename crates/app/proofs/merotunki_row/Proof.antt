@@ -1,4 +1,5 @@
--- The part is the view's, by its length. Assumes nothing.
+-- `merotunki_row` meets its contract: the part has the view's length n, and row k begins at entry k * n. Assumes
+-- nothing.
 use borrow.Author.Needs.{needs}
 use native.Mathlib.Omega.{arith}
 use Rattle.app.specs.Row.{no-part, lies}

@@ -1,4 +1,4 @@
--- The report of the call beneath, told; the lists as it leaves them. Assumes nothing.
+-- `merotunki_svd` meets its contract: it tells the report of the call beneath, which leaves the table. Assumes nothing.
 use borrow.Author.Needs.{needs}
 use Rattle.app.specs.Answers.{told-of}
 use Rattle.app.proofs.merotunki_svd.Statement.{statement}
@@ -11,4 +11,6 @@ returns c =
     told-of _ _ _ _ (c .tell .ensures) (rw (at-choose .choose .ensures) at (at-split .svd-decomposition .ensures))
 
 pub merotunki-svd-spec : {M : Type 1} → statement M
-merotunki-svd-spec = tie.close (tie.spec (λ c κs. search needs) (λ c κs. search needs) (λ c κs. search needs) (λ c. search needs) returns)
+merotunki-svd-spec =
+    tie.close
+    (tie.spec (λ c κs. search needs) (λ c κs. search needs) (λ c κs. search needs) (λ c. search needs) returns)

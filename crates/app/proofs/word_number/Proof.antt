@@ -1,4 +1,4 @@
--- Word by word. Assumes nothing.
+-- `word_number` meets its contract: word by word. Assumes nothing.
 use borrow.Author.Needs.{needs}
 use Rattle.app.proofs.word_number.Statement.{statement}
 use Rattle.app.proofs.word_number.Tie as tie
@@ -13,4 +13,6 @@ returns-3 : tie.Need-returns-3
 returns-3 c = search needs
 
 pub word-number-spec : {M : Type 1} → statement M
-word-number-spec = tie.close (tie.spec (λ c. search needs) (λ c. search needs) (λ c. search needs) returns returns-2 returns-3)
+word-number-spec =
+    tie.close
+    (tie.spec (λ c. search needs) (λ c. search needs) (λ c. search needs) returns returns-2 returns-3)

@@ -1,4 +1,4 @@
--- `float::digits` meets its contract.
+-- `float::digits` meets its contract: each turn finds one more digit of the root, as `Found` says. Assumes nothing.
 use Prim.Native.Nat.{_*_, _^_}
 use native.Mathlib.Omega.{arith}
 use Rattle.float.proofs.Loop.{Found, start, skip, take, done}
@@ -28,21 +28,21 @@ loop-less c = omega arith
 
 loop-again : tie.Need-loop-again Inv-loop μ-loop
 loop-again c =
-    let at = c .before .before in
-    take (at .before .args .x * 2 ^ 54) (at .loop .twice) (at .loop .rest) (at .loop .bit) (at .loop .inv) (c .before .loop-test .taken) (c .if1 .taken)
+    let at-loop = c .before .before in
+    take (at-loop .before .args .x * 2 ^ 54) (at-loop .loop .twice) (at-loop .loop .rest) (at-loop .loop .bit) (at-loop .loop .inv) (c .before .loop-test .taken) (c .if1 .taken)
 
 loop-less-2 : tie.Need-loop-less-2 Inv-loop μ-loop
 loop-less-2 c = omega arith
 
 loop-again-2 : tie.Need-loop-again-2 Inv-loop μ-loop
 loop-again-2 c =
-    let at = c .before .before in
-    skip (at .before .args .x * 2 ^ 54) (at .loop .twice) (at .loop .rest) (at .loop .bit) (at .loop .inv) (c .before .loop-test .taken) (c .if1 .left)
+    let at-loop = c .before .before in
+    skip (at-loop .before .args .x * 2 ^ 54) (at-loop .loop .twice) (at-loop .loop .rest) (at-loop .loop .bit) (at-loop .loop .inv) (c .before .loop-test .taken) (c .if1 .left)
 
 returns : tie.Need-returns Inv-loop μ-loop
 returns c =
-    let at = c .before in
-    done (at .before .args .x * 2 ^ 54) (at .loop .twice) (at .loop .rest) (at .loop .bit) (at .loop .inv) (c .loop-test .left)
+    let at-loop = c .before in
+    done (at-loop .before .args .x * 2 ^ 54) (at-loop .loop .twice) (at-loop .loop .rest) (at-loop .loop .bit) (at-loop .loop .inv) (c .loop-test .left)
 
 pub digits-spec : {M : Type 1} → statement M
 digits-spec =

@@ -1,4 +1,4 @@
--- `float::larger` meets its contract.
+-- `float::larger` meets its contract: the second where the first is NaN or below it, else the first. Assumes nothing.
 use mathlib.Core.Logic.{⊎-elim}
 use mathlib.Core.Path.{_≡_, refl}
 use lib.Ieee.{isNan, lt}

@@ -1,4 +1,4 @@
--- `float::magnitude` meets its contract.
+-- `float::magnitude` meets its contract: the pattern without its highest bit is the magnitude's. Assumes nothing.
 use mathlib.Core.Path.{_≡_, refl}
 use native.Mathlib.Omega.{arith}
 use Rattle.method.specs.Floats.{magnitude}

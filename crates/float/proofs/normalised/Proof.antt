@@ -1,4 +1,5 @@
--- `float::normalised` meets its contract.
+-- `float::normalised` meets its contract: each turn doubles the digits and takes one off the power, as `Level` says.
+-- Assumes nothing.
 use Prim.Native.Nat.{_+_, _/_, _%_, _^_}
 use mathlib.Core.Logic.{⊎-elim}
 use native.Mathlib.Omega.{arith}
@@ -37,18 +38,18 @@ add-digits-2 c = omega arith
 
 sub-power : tie.Need-sub-power Inv-loop μ-loop
 sub-power c =
-    let at = c .before .before .before in
-    power-pos (count binary64 (ofBits binary64 (at .before .before .args .bits))) (at .loop .digits) (at .loop .power) (at .loop .inv) (c .before .before .loop-test .taken)
+    let at-loop = c .before .before .before in
+    power-pos (count binary64 (ofBits binary64 (at-loop .before .before .args .bits))) (at-loop .loop .digits) (at-loop .loop .power) (at-loop .loop .inv) (c .before .before .loop-test .taken)
 
 loop-less : tie.Need-loop-less Inv-loop μ-loop
 loop-less c =
-    let at = c .before .before .before in
-    omega (arith, power-pos (count binary64 (ofBits binary64 (at .before .before .args .bits))) (at .loop .digits) (at .loop .power) (at .loop .inv) (c .before .before .loop-test .taken))
+    let at-loop = c .before .before .before in
+    omega (arith, power-pos (count binary64 (ofBits binary64 (at-loop .before .before .args .bits))) (at-loop .loop .digits) (at-loop .loop .power) (at-loop .loop .inv) (c .before .before .loop-test .taken))
 
 loop-again : tie.Need-loop-again Inv-loop μ-loop
 loop-again c =
-    let at = c .before .before .before in
-    turn (count binary64 (ofBits binary64 (at .before .before .args .bits))) (at .loop .digits) (at .loop .power) (at .loop .inv) (c .before .before .loop-test .taken)
+    let at-loop = c .before .before .before in
+    turn (count binary64 (ofBits binary64 (at-loop .before .before .args .bits))) (at-loop .loop .digits) (at-loop .loop .power) (at-loop .loop .inv) (c .before .before .loop-test .taken)
 
 returns : tie.Need-returns Inv-loop μ-loop
 returns c =

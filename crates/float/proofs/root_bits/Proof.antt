@@ -1,4 +1,5 @@
--- `float::root_bits` meets its contract.
+-- `float::root_bits` meets its contract: half of the power and the root's digits, joined, are the root's pattern. Assumes
+-- nothing.
 use Prim.Native.Nat.{_+_, _*_, _/_, _%_, _^_, _≤_, _<_}
 use mathlib.Core.Path.{_≡_}
 use mathlib.Core.Logic.{⊎-elim}

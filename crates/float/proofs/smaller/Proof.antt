@@ -1,4 +1,4 @@
--- `float::smaller` meets its contract.
+-- `float::smaller` meets its contract: the second where the first is NaN or above it, else the first. Assumes nothing.
 use mathlib.Core.Logic.{⊎-elim}
 use mathlib.Core.Path.{_≡_, refl}
 use lib.Ieee.{isNan, lt}

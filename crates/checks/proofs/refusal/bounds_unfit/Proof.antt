@@ -1,4 +1,4 @@
--- By one bound after another. Assumes nothing.
+-- `bounds_unfit` meets its contract: by one bound after another. Assumes nothing.
 use borrow.Author.Needs.{needs}
 use mathlib.Core.Path.{refl}
 use Rattle.checks.proofs.refusal.bounds_unfit.Statement.{statement}

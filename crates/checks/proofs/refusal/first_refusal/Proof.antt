@@ -1,4 +1,5 @@
--- `first_refusal` meets its contract: the first of four lists of checks, one after the other, is the first of the first list that has one. Assumes nothing.
+-- `first_refusal` meets its contract: of four lists of checks, one after the other, the first that refuses is in the first
+-- list that has one. Assumes nothing.
 use borrow.Author.Needs.{needs}
 use mathlib.Core.Path.{refl}
 use Rattle.method.specs.Work.{work}

@@ -1,4 +1,4 @@
--- By whether x is finite. Assumes nothing.
+-- `floor_fit` meets its contract: by whether x is finite. Assumes nothing.
 use borrow.Author.Needs.{needs}
 use mathlib.Core.Path.{refl}
 use Rattle.method.specs.Floats.{plusZero-64}

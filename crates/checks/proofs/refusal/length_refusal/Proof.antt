@@ -1,4 +1,5 @@
--- `length_refusal` meets its contract: one check after the other, as the definition has them; the products are small. Assumes nothing.
+-- `length_refusal` meets its contract: one check after the other, as the definition has them; the products are small.
+-- Assumes nothing.
 use borrow.Author.Needs.{needs}
 use mathlib.Core.Path.{sym, _∙_}
 use native.Mathlib.Omega.{arith}

@@ -1,4 +1,4 @@
--- By the first test. Assumes nothing.
+-- `no_size` meets its contract: by the first of its two tests. Assumes nothing.
 use mathlib.Core.Path.{refl}
 use borrow.Author.Tests.{eq-eqb, ne-eqb}
 use Rattle.checks.proofs.refusal.no_size.Statement.{statement}

@@ -1,4 +1,4 @@
--- By the first test. Assumes nothing.
+-- `over_limit` meets its contract: by the first of its two tests. Assumes nothing.
 use mathlib.Core.Path.{refl}
 use borrow.Author.Tests.{lt-ltb, le-ltb}
 use Rattle.checks.proofs.refusal.over_limit.Statement.{statement}

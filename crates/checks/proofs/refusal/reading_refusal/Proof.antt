@@ -1,4 +1,5 @@
--- `reading_refusal` meets its contract: where the search ends before the last reading, it is at the first bad one. Assumes nothing.
+-- `reading_refusal` meets its contract: where the search ends before the last reading, it is at the first bad one.
+-- Assumes nothing.
 use borrow.Author.Needs.{needs}
 use mathlib.Core.Path.{sym, _∙_}
 use borrow.Author.Tests.{lt-ltb, le-ltb}

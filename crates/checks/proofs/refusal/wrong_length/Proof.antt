@@ -1,4 +1,4 @@
--- By whether the list is kept. Assumes nothing.
+-- `wrong_length` meets its contract: by whether the list is kept. Assumes nothing.
 use mathlib.Core.Path.{refl}
 use Rattle.checks.proofs.refusal.wrong_length.Statement.{statement}
 use Rattle.checks.proofs.refusal.wrong_length.Tie as tie

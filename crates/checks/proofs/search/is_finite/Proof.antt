@@ -1,4 +1,4 @@
--- Between the two infinities. Assumes nothing.
+-- `is_finite` meets its contract: a float is finite where it lies between the two infinities. Assumes nothing.
 use lib.Ieee.{binary64}
 use Rattle.method.specs.Floats.{plusZero-64, one-64}
 use Rattle.method.specs.Finite.{finite-test}

@@ -1,4 +1,4 @@
--- After k turns the first k entries are 0 and the rest as they were. Assumes nothing.
+-- `zeros` meets its contract: after k turns the first k entries are 0 and the rest as they were. Assumes nothing.
 use borrow.Author.Needs.{needs}
 use Prim.Native.Nat.{_-_, _≤_}
 use mathlib.Core.Path.{_≡_, refl}
@@ -21,12 +21,21 @@ loop-holds : tie.Need-loop-holds Inv-loop μ-loop
 loop-holds c = (omega arith, c .pre, refl)
 
 loop-again : tie.Need-loop-again Inv-loop μ-loop
-loop-again c = (omega arith, simp length-set (omega arith), rw plusZero-64 (zeros-more (c .before .loop .k) (c .before .loop .a) (c .before .before .args .a .now) (omega arith) (c .before .loop .inv .2)))
+loop-again c =
+    let at-loop = c .before in
+    let at-start = at-loop .before in
+    let more = zeros-more (at-loop .loop .k) _ (at-start .args .a .now) (omega arith) (at-loop .loop .inv .2) in
+    (omega arith, simp length-set (omega arith), rw plusZero-64 more)
 
 returns : tie.Need-returns Inv-loop μ-loop
 returns c =
-    let st = c .before .before in
-    zeros-all (st .args .n) (c .before .loop .k) (c .before .loop .a) (st .args .a .now) (st .pre) (le-antisymm (c .before .loop .inv .0) (c .loop-test .left)) (c .before .loop .inv .2)
+    let at-loop = c .before in
+    let at-start = at-loop .before in
+    zeros-all (at-start .args .n) (at-loop .loop .k) (at-loop .loop .a) (at-start .args .a .now) (at-start .pre)
+    (le-antisymm (at-loop .loop .inv .0) (c .loop-test .left)) (at-loop .loop .inv .2)
 
 pub zeros-spec : {M : Type 1} → statement M
-zeros-spec = tie.close (tie.spec Inv-loop μ-loop loop-holds (λ c. search needs) (λ c. search needs) (λ c. search needs) (λ c. search needs) loop-again (λ c. search needs) returns)
+zeros-spec =
+    tie.close
+    (tie.spec Inv-loop μ-loop loop-holds (λ c. search needs) (λ c. search needs) (λ c. search needs) (λ c. search needs)
+    loop-again (λ c. search needs) returns)

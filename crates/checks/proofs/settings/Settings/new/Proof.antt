@@ -1,4 +1,4 @@
--- The literals are the defaults. Assumes nothing.
+-- `Settings::new` meets its contract: the literals are the defaults. Assumes nothing.
 use mathlib.Core.Path.{refl}
 use Rattle.method.specs.Defaults.{defaultTolerance, defaultAbsolute, defaultFloor}
 use Rattle.checks.proofs.settings.Settings.new.Statement.{statement}
