@@ -1,12 +1,17 @@
 -- The code's values as the method's, and what the kernels ask of the lists they are lent. Assumes nothing.
 use mathlib.Core.List.{List}
-use Prim.Native.Nat.{ℕ, _+_, _*_, _≤_}
+use Prim.Native.Nat.{ℕ, _+_, _-_, _*_, _≤_, _<_}
+use native.Mathlib.Nat.{zero-add}
+use native.Mathlib.Omega.{arith}
 use lib.ListN.{length}
 use mathlib.Core.Path.{_≡_}
-use lib.Ieee.{Float, binary64}
+use lib.Ieee.{Float, binary64, eq, ne}
+use borrow.Author.Tests.{not-true, not-false}
+use mathlib.Core.Bool.{true, false}
 use Rattle.method.specs.Rotation.{Rotation as Turn}
 use Rattle.method.specs.Reflection.{Reflection}
 use Rattle.method.specs.Bidiagonal.{columnReflection, headed}
+use Rattle.method.specs.Index.{rows-left}
 use Rattle.method.specs.Work.{Work, Shape as Sizes}
 use Rattle.method.specs.Lengths.{SameLengths}
 use Rattle.method.specs.Walk as Walk
@@ -83,21 +88,26 @@ pub record Lending (z : Sizes) (w : Work) : Type 0 where
   pub u : Lent (z .rows) (z .urows) (w .u)
   pub v : Lent (z .cols) (z .vrows) (w .v)
 
--- which goes by the lengths alone
+-- all of which goes by the lengths alone
+pub roomy-kept : {z : Sizes} {b b′ : List Float} → length b′ ≡ length b → Roomy z b → Roomy z b′
+roomy-kept e t =
+    record {
+      rows-few = t .rows-few;
+      cols-few = t .cols-few;
+      stride-few = t .stride-few;
+      wide = t .wide;
+      whole = rw e (t .whole);
+    }
+
+pub lent-kept : {n kept : ℕ} {a a′ : List Float} → length a′ ≡ length a → Lent n kept a → Lent n kept a′
+lent-kept e l = record { few = l .few; whole = rw e (l .whole) }
+
 pub lending-kept : {z : Sizes} {w w′ : Work} → SameLengths w w′ → Lending z w → Lending z w′
 lending-kept s l =
-    let t = l .table in
     record {
-      table =
-          record {
-            rows-few = t .rows-few;
-            cols-few = t .cols-few;
-            stride-few = t .stride-few;
-            wide = t .wide;
-            whole = rw (s .matrix) (t .whole);
-          };
-      u = record { few = l .u .few; whole = rw (s .u) (l .u .whole) };
-      v = record { few = l .v .few; whole = rw (s .v) (l .v .whole) };
+      table = roomy-kept (s .matrix) (l .table);
+      u = lent-kept (s .u) (l .u);
+      v = lent-kept (s .v) (l .v);
     }
 
 -- the table has n rows and n columns, or more
@@ -110,3 +120,25 @@ pub record Block (stride i j rows cols : ℕ) (a : List Float) : Type 0 where
   pub wide : j + cols ≤ stride
   pub few : i + rows ≤ 48
   pub whole : (i + rows) * stride ≤ length a
+
+-- ---- what a reflection asks: a vector long enough, and the lines from its own on
+
+pub reaches : {n i long : ℕ} → i < n → n ≤ 48 → long ≡ 48 → (1 ≤ n - i) × (n - i ≤ long)
+reaches h few e = (omega arith, omega (arith, e))
+
+-- the table from row i and column j on
+pub table-block : {z : Sizes} {b : List Float} (i j : ℕ) → i ≤ z .rows → j ≤ z .cols → Roomy z b → Block (z .stride) i j (z .rows - i) (z .cols - j) b
+table-block {z} i j h g t = record { wide = omega (arith, t .wide); few = omega (arith, t .rows-few); whole = rw (rows-left i (z .rows) (z .stride) h) (t .whole) }
+
+-- the kept rows of a factor from column i on
+pub factor-block : {n kept : ℕ} {a : List Float} (i : ℕ) → i ≤ n → Lent n kept a → Block n 0 i kept (n - i) a
+factor-block i h l = record { wide = omega arith; few = rw zero-add (l .few); whole = rw zero-add (l .whole) }
+
+-- and a tau that is not 0, tested by `!=`
+pub ne-taken : (x y : Float) → ne x y ≡ true → eq x y ≡ false
+unfolding ne
+ne-taken x y e = not-true (eq x y) e
+
+pub ne-left : (x y : Float) → ne x y ≡ false → eq x y ≡ true
+unfolding ne
+ne-left x y e = not-false (eq x y) e

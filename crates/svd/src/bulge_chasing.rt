@@ -15,7 +15,7 @@ ghost use lib.ListN.{length};
 ghost use lib.Ieee.{binary64};
 ghost use Rattle.method.specs.Work.{work, couplingPlace};
 ghost use Rattle.method.specs.Walk.{stands, run};
-ghost use Rattle.method.specs.Chase.{along, turned, pushed, stepped, steps, negligible, firstRotation, swept};
+ghost use Rattle.method.specs.Chase.{along, turned, pushed, steps, negligible, firstRotation, swept};
 ghost use Rattle.method.specs.Outcome.{rulesOf};
 ghost use Rattle.svd.specs.Values.{rotation, sizes, walkOf, Lending, Inside, Block};
 ghost use Rattle.svd.specs.Passes.{Standing};
@@ -83,24 +83,15 @@ fn push(
     turn(b, u, v, z, g, rowwise, i, j, n);
 }
 
-// One step down the diagonal.
-fn step(b: &mut [f64], u: &mut [f64], v: &mut [f64], z: Shape, upper: bool, k: usize)
-    requires { ⌜ Inside (sizes z) (k + 3) × Lending (sizes z) (work (now b) (now u) (now v)) ⌝ }
-    ensures { λ _. ⌜ work (now (b .exit)) (now (u .exit)) (now (v .exit)) ≡
-        stepped binary64 (sizes z) upper k (work (now (b .entry)) (now (u .entry)) (now (v .entry))) ⌝ }
-{
-    push(b, u, v, z, upper, k, k, 3);
-    push(b, u, v, z, !upper, k + 1, k, 3);
-}
-
-// The steps down the interior of the live corner.
+// The steps down the interior of the live corner, each of two pushes.
 fn chase(b: &mut [f64], u: &mut [f64], v: &mut [f64], z: Shape, upper: bool, interior: usize)
     requires { ⌜ Inside (sizes z) (interior + 2) × Lending (sizes z) (work (now b) (now u) (now v)) ⌝ }
     ensures { λ _. ⌜ work (now (b .exit)) (now (u .exit)) (now (v .exit)) ≡
         steps binary64 (sizes z) upper interior (work (now (b .entry)) (now (u .entry)) (now (v .entry))) ⌝ }
 {
     for k in 0..interior {
-        step(b, u, v, z, upper, k);
+        push(b, u, v, z, upper, k, k, 3);
+        push(b, u, v, z, !upper, k + 1, k, 3);
     }
 }
 
