@@ -27,10 +27,11 @@ fn along(b: &[f64], stride: usize, rowwise: bool, i: usize, j: usize) -> f64
 {
     if rowwise {
         let at = i * stride + j;
-        return b[at];
+        b[at]
+    } else {
+        let at = j * stride + i;
+        b[at]
     }
-    let at = j * stride + i;
-    b[at]
 }
 
 // Lines i and i + 1, turned in the n entries from j on. Rows turn the same columns of U with them,

@@ -91,20 +91,21 @@ pub(crate) fn params(v: &mut [f64], p: &mut [f64], at: usize, n: usize, floor: f
     let max = largest(v, at, n);
     if max < floor {
         p[0] = 1.0;
-        return 0.0;
+        0.0
+    } else {
+        let over = 1.0 / max;
+        scale_into(v, p, at, n, over);
+        clear_line(v, at, 1, n);
+        let sum = squares(p, n);
+        let head = p[0];
+        let g = float::sign(head) * float::square_root(sum);
+        let scale = head + g;
+        let by = 1.0 / scale;
+        scale_from(p, 1, n, by);
+        v[at] = (-g) * max;
+        p[0] = 1.0;
+        scale / g
     }
-    let over = 1.0 / max;
-    scale_into(v, p, at, n, over);
-    clear_line(v, at, 1, n);
-    let sum = squares(p, n);
-    let head = p[0];
-    let g = float::sign(head) * float::square_root(sum);
-    let scale = head + g;
-    let by = 1.0 / scale;
-    scale_from(p, 1, n, by);
-    v[at] = (-g) * max;
-    p[0] = 1.0;
-    scale / g
 }
 
 // The row at `off` times p, whose head counts as 1.

@@ -58,18 +58,20 @@ pub fn full_svd_decomposition(
 {
     let refusal = first_refusal(b, u, v, true, rows, cols, settings);
     if refusal.number != 0 {
-        return Report::refused(refusal);
+        Report::refused(refusal)
+    } else {
+        let z = Shape {
+            rows: rows,
+            cols: cols,
+            stride: cols,
+            urows: rows,
+            vrows: cols,
+        };
+        let walk = decompose(b, u, v, z, settings);
+        Report::accepted(walk, b)
     }
-    let z = Shape {
-        rows: rows,
-        cols: cols,
-        stride: cols,
-        urows: rows,
-        vrows: cols,
-    };
-    let walk = decompose(b, u, v, z, settings);
-    Report::accepted(walk, b)
 }
+
 // The split of the table alone.
 pub fn svd_decomposition(b: &mut [f64], rows: usize, cols: usize, settings: Settings) -> Report
     ensures { λ r. ⌜ outcomeOf (reportOf r) (work (now (b .exit)) [] []) ≡
@@ -79,15 +81,16 @@ pub fn svd_decomposition(b: &mut [f64], rows: usize, cols: usize, settings: Sett
     let mut v = [0.0f64; 0];
     let unfit = first_refusal(b, &u, &v, false, rows, cols, settings);
     if unfit.number != 0 {
-        return Report::refused(unfit);
+        Report::refused(unfit)
+    } else {
+        let z = Shape {
+            rows: rows,
+            cols: cols,
+            stride: cols,
+            urows: 0,
+            vrows: 0,
+        };
+        let walk = decompose(b, &mut u, &mut v, z, settings);
+        Report::accepted(walk, b)
     }
-    let z = Shape {
-        rows: rows,
-        cols: cols,
-        stride: cols,
-        urows: 0,
-        vrows: 0,
-    };
-    let walk = decompose(b, &mut u, &mut v, z, settings);
-    Report::accepted(walk, b)
 }

@@ -50,4 +50,4 @@ returns-2 c =
     rw one-64 (reflection-large _ _ _ _ _ _ _ _ _ _ _ _ (at-largest .largest .ensures) (at-if1 .if1 .left) (rw one-64 at (at-scale-into .scale-into .ensures)) (at-clear-line .clear-line .ensures) (at-squares .squares .ensures) (at-sign .sign .ensures) (at-square-root .square-root .ensures) (rw one-64 at (c .before .before .scale-from .ensures)))
 
 pub params-spec : {M : Type 1} → statement M
-params-spec = tie.close (tie.spec (λ c κs. search needs) slice-write-p (λ c. search needs) (λ c. search needs) returns (λ c κs. search needs) (λ c κs. search needs) squares-requires slice-read-head (λ c κs. search needs) (λ c κs. search needs) scale-from-requires (λ c. search needs) (λ c. search needs) slice-write-p-2 (λ c. search needs) same-length-4 returns-2)
+params-spec = tie.close (tie.spec (λ c κs. search needs) slice-write-p (λ c κs. search needs) (λ c κs. search needs) squares-requires slice-read-head (λ c κs. search needs) (λ c κs. search needs) scale-from-requires (λ c. search needs) (λ c. search needs) slice-write-p-2 (λ c. search needs) (λ c. search needs) returns (λ c. search needs) same-length-4 returns-2)

@@ -29,4 +29,4 @@ returns-2 c =
     plain-call (at-start .args .rows) (at-start .args .cols) (settingsOf (at-start .args .settings)) _ (at-start .args .b .now) _ _ _ (accepted-call false (at-start .args .rows) (at-start .args .cols) (settingsOf (at-start .args .settings)) (work (at-start .args .b .now) [] []) _ _ _ _ (at-first-refusal .first-refusal .ensures) (at-if1 .if1 .left) (c .accepted .ensures) (at-decompose .decompose .ensures))
 
 pub svd-decomposition-spec : {M : Type 1} → statement M
-svd-decomposition-spec = tie.close (tie.spec (λ c. search needs) (λ c. search needs) (λ c κs. search needs) (λ c κs. search needs) (λ c. search needs) returns (λ c. search needs) (λ c. search needs) decompose-requires (λ c κs. search needs) (λ c. search needs) returns-2)
+svd-decomposition-spec = tie.close (tie.spec (λ c. search needs) (λ c. search needs) (λ c κs. search needs) (λ c κs. search needs) (λ c. search needs) (λ c. search needs) decompose-requires (λ c κs. search needs) (λ c. search needs) returns (λ c. search needs) returns-2)
