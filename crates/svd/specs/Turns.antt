@@ -2,7 +2,7 @@
 use mathlib.Core.Path.{_≡_, refl, _∙_}
 use mathlib.Core.Bool.{Bool, true, false, not}
 use mathlib.Core.List.{List}
-use Prim.Native.Nat.{ℕ, _+_, _-_, _*_, _<_, zero-le}
+use Prim.Native.Nat.{ℕ, _+_, _-_, _*_, _≤_, _<_, zero-le}
 use native.Mathlib.Omega.{arith}
 use lib.Ieee.{Float, binary64}
 use Rattle.method.specs.Work.{Work, work, Shape as Sizes}
@@ -60,6 +60,14 @@ module _ (floor : Float) (z : Sizes) where
 
     pub last-lower : upper ≡ false → w₂ ≡ rowZeroed binary64 floor z (c - 1) (c - 1) w₁ → w₂ ≡ bidiagonal binary64 floor z upper c w₀
     last-lower e d = last (rw e d)
+
+-- all places of c but the last, and the last
+pub but-last : {z : Sizes} {c : ℕ} → 1 ≤ c → Inside z c → Inside z (c - 1 + 1) × (c - 1 < z .rows) × (c - 1 < z .cols)
+but-last h i = (
+  record { in-rows = omega (arith, i .in-rows); in-cols = omega (arith, i .in-cols) },
+  omega (arith, i .in-rows),
+  omega (arith, i .in-cols),
+)
 
 -- a place before the last one, and the next, lie inside
 pub place-inside : {z : Sizes} {k pivot : ℕ} → k < pivot → Inside z (pivot + 1) → (k < z .rows) × (k < z .cols) × (k + 1 < z .rows) × (k + 1 < z .cols)

@@ -1,6 +1,7 @@
 // The bidiagonal form (svd/bidiagonalization.rs, with its twins in svd/verify.rs): columns are
 // cleared below their heads and rows past theirs, and U and V take the same reflections. The plain
 // call keeps no rows of U and V, so one function stands for each pair of twins.
+use crate::householder::MOST_SIZE;
 use crate::householder::clear_line;
 use crate::householder::copy_line;
 use crate::householder::lapply_householder;
@@ -12,6 +13,7 @@ ghost use Prim.Native.Nat.{_+_, _-_, _*_, _≤_, _<_};
 ghost use lib.ListN.{length};
 ghost use lib.Ieee.{binary64};
 ghost use Rattle.method.specs.Work.{work};
+ghost use Rattle.method.specs.Settings.{mostSize};
 ghost use Rattle.method.specs.Reflection.{blank, reflectionOf};
 ghost use Rattle.method.specs.Bidiagonal.{columnReflection, columnMatrix, rowMatrix};
 ghost use Rattle.method.specs.Bidiagonal.{factorReflected, placesZeroed, bidiagonal};
@@ -28,12 +30,12 @@ fn take_col(
     j: usize,
     floor: f64,
 ) -> f64
-    requires { ⌜ (i < rows) × (j < stride) × (rows ≤ 48) × (rows * stride ≤ length (now b)) × (now p ≡ blank) ⌝ }
+    requires { ⌜ (i < rows) × (j < stride) × (rows ≤ mostSize) × (rows * stride ≤ length (now b)) × (now p ≡ blank) ⌝ }
     ensures { λ r. ⌜ Taken floor rows stride i j (now (b .entry)) (now (b .exit)) (now (p .exit)) r ⌝ }
 {
     let n = rows - i;
     let head = i * stride + j;
-    let mut w = [0.0f64; 48];
+    let mut w = [0.0f64; MOST_SIZE];
     copy_line(b, &mut w, head, stride, n);
     clear_line(b, head, stride, n);
     let tau = params(&mut w, p, 0, n, floor);
@@ -51,7 +53,7 @@ fn zero_col(b: &mut [f64], u: &mut [f64], z: Shape, i: usize, j: usize, floor: f
 {
     let stride = z.stride;
     let n = z.rows - i;
-    let mut p = [0.0f64; 48];
+    let mut p = [0.0f64; MOST_SIZE];
     let tau = take_col(b, &mut p, z.rows, stride, i, j, floor);
     if tau != 0.0 {
         let right = j + 1;
@@ -70,7 +72,7 @@ fn zero_row(b: &mut [f64], v: &mut [f64], z: Shape, i: usize, j: usize, floor: f
 {
     let stride = z.stride;
     let n = z.cols - j;
-    let mut p = [0.0f64; 48];
+    let mut p = [0.0f64; MOST_SIZE];
     let at = i * stride + j;
     let tau = params(b, &mut p, at, n, floor);
     if tau != 0.0 {

@@ -17,7 +17,7 @@ ghost use Rattle.method.specs.Work.{work, couplingPlace};
 ghost use Rattle.method.specs.Walk.{stands, run};
 ghost use Rattle.method.specs.Chase.{along, turned, pushed, steps, negligible, firstRotation, swept};
 ghost use Rattle.method.specs.Outcome.{rulesOf};
-ghost use Rattle.svd.specs.Values.{rotation, sizes, walkOf, Lending, Inside, Block};
+ghost use Rattle.svd.specs.Values.{rotation, sizes, walkOf, mostStride, Lending, Inside, Block};
 ghost use Rattle.svd.specs.Passes.{Standing};
 
 // Entry j of line i, a row or a column.
@@ -98,7 +98,7 @@ fn chase(b: &mut [f64], u: &mut [f64], v: &mut [f64], z: Shape, upper: bool, int
 
 // The rotation that a sweep starts with.
 fn first_rotation(b: &[f64], stride: usize, upper: bool, k: usize, tl: usize, bl: usize) -> Rotation
-    requires { ⌜ Block stride k k 2 2 (now b) × (stride ≤ 64) × (tl ≡ k * stride + k) × (bl ≡ (k + 1) * stride + k) ⌝ }
+    requires { ⌜ Block stride k k 2 2 (now b) × (stride ≤ mostStride) × (tl ≡ k * stride + k) × (bl ≡ (k + 1) * stride + k) ⌝ }
     ensures { λ r. ⌜ rotation r ≡ firstRotation binary64 stride upper k (now (b .entry)) ⌝ }
 {
     let tr = tl + 1;
@@ -142,7 +142,7 @@ fn is_negligible(
     bl: usize,
     s: Settings,
 ) -> bool
-    requires { ⌜ Block stride k k 2 2 (now b) × (stride ≤ 64)
+    requires { ⌜ Block stride k k 2 2 (now b) × (stride ≤ mostStride)
         × (e1 ≡ couplingPlace upper stride k) × (tl ≡ k * stride + k) × (bl ≡ (k + 1) * stride + k) ⌝ }
     ensures { λ r. ⌜ r ≡ negligible binary64 (s .tolerance) (s .absolute) stride upper k (now (b .entry)) ⌝ }
 {

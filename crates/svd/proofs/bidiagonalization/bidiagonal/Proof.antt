@@ -1,10 +1,9 @@
 -- `bidiagonal` meets its contract: by whether the table is square, and if it is not, by which form. Assumes nothing.
 use borrow.Author.Needs.{needs}
 use mathlib.Core.Path.{_∙_}
-use native.Mathlib.Omega.{arith}
 use Rattle.method.specs.Bidiagonal.{bidiagonal-square}
 use Rattle.svd.specs.Values.{roomy-kept, lent-kept}
-use Rattle.svd.specs.Turns.{column-zeroed, row-zeroed, last-upper, last-lower}
+use Rattle.svd.specs.Turns.{column-zeroed, row-zeroed, last-upper, last-lower, but-last}
 use Rattle.svd.proofs.bidiagonalization.bidiagonal.Statement.{statement}
 use Rattle.svd.proofs.bidiagonalization.bidiagonal.Tie as tie
 
@@ -13,14 +12,16 @@ zero-col-requires c κs =
     let at-zero-places = c .before .before .before .before .before .before .before .before .before .before .before in
     let at-start = at-zero-places .before .before .before .before .before .before .before in
     let kept = at-zero-places .zero-places .kept in
-    (omega arith, omega arith, roomy-kept (kept .0) (at-start .pre .2 .table), lent-kept (kept .1 .0) (at-start .pre .2 .u))
+    let last = but-last (at-start .pre .0) (at-start .pre .1) in
+    (last .1, last .2, roomy-kept (kept .0) (at-start .pre .2 .table), lent-kept (kept .1 .0) (at-start .pre .2 .u))
 
 zero-row-requires : tie.Need-zero-row-requires
 zero-row-requires c κs =
     let at-zero-places = c .before .before .before .before .before .before .before .before .before .before .before in
     let at-start = at-zero-places .before .before .before .before .before .before .before in
     let kept = at-zero-places .zero-places .kept in
-    (omega arith, omega arith, roomy-kept (kept .0) (at-start .pre .2 .table), lent-kept (kept .1 .1 .0) (at-start .pre .2 .v))
+    let last = but-last (at-start .pre .0) (at-start .pre .1) in
+    (last .1, last .2, roomy-kept (kept .0) (at-start .pre .2 .table), lent-kept (kept .1 .1 .0) (at-start .pre .2 .v))
 
 returns : tie.Need-returns
 returns c =
@@ -42,4 +43,4 @@ returns-3 : tie.Need-returns-3
 returns-3 c = bidiagonal-square _ _ _ _ _ _ _ (c .before .before .before .before .before .before .before .before .zero-places .ensures) (c .if1 .left)
 
 pub bidiagonal-spec : {M : Type 1} → statement M
-bidiagonal-spec = tie.close (tie.spec (λ c. search needs) (λ c κs. search needs) zero-col-requires zero-row-requires (λ c. c .before .before .before .before .zero-col .kept .0 ∙ c .before .before .before .before .before .before .before .before .before .before .before .before .before .before .before .before .zero-places .kept .0) (λ c. c .before .before .before .before .zero-col .kept .1 .0 ∙ c .before .before .before .before .before .before .before .before .before .before .before .before .before .before .before .before .zero-places .kept .1 .0) (λ c. c .before .before .before .before .before .before .before .before .before .before .before .before .before .before .before .before .zero-places .kept .1 .1 .0) returns (λ c. c .before .before .before .before .zero-row .kept .0 ∙ c .before .before .before .before .before .before .before .before .before .before .before .before .before .before .before .before .zero-places .kept .0) (λ c. c .before .before .before .before .before .before .before .before .before .before .before .before .before .before .before .before .zero-places .kept .1 .0) (λ c. c .before .before .before .before .zero-row .kept .1 .0 ∙ c .before .before .before .before .before .before .before .before .before .before .before .before .before .before .before .before .zero-places .kept .1 .1 .0) returns-2 (λ c. c .before .before .before .before .before .before .before .before .zero-places .kept .0) (λ c. c .before .before .before .before .before .before .before .before .zero-places .kept .1 .0) (λ c. c .before .before .before .before .before .before .before .before .zero-places .kept .1 .1 .0) returns-3)
+bidiagonal-spec = tie.close (tie.spec (λ c. search needs) (λ c κs. (but-last (c .before .before .before .before .before .before .pre .0) (c .before .before .before .before .before .before .pre .1) .0, c .before .before .before .before .before .before .pre .2)) zero-col-requires zero-row-requires (λ c. c .before .before .before .before .zero-col .kept .0 ∙ c .before .before .before .before .before .before .before .before .before .before .before .before .before .before .before .before .zero-places .kept .0) (λ c. c .before .before .before .before .zero-col .kept .1 .0 ∙ c .before .before .before .before .before .before .before .before .before .before .before .before .before .before .before .before .zero-places .kept .1 .0) (λ c. c .before .before .before .before .before .before .before .before .before .before .before .before .before .before .before .before .zero-places .kept .1 .1 .0) returns (λ c. c .before .before .before .before .zero-row .kept .0 ∙ c .before .before .before .before .before .before .before .before .before .before .before .before .before .before .before .before .zero-places .kept .0) (λ c. c .before .before .before .before .before .before .before .before .before .before .before .before .before .before .before .before .zero-places .kept .1 .0) (λ c. c .before .before .before .before .zero-row .kept .1 .0 ∙ c .before .before .before .before .before .before .before .before .before .before .before .before .before .before .before .before .zero-places .kept .1 .1 .0) returns-2 (λ c. c .before .before .before .before .before .before .before .before .zero-places .kept .0) (λ c. c .before .before .before .before .before .before .before .before .zero-places .kept .1 .0) (λ c. c .before .before .before .before .before .before .before .before .zero-places .kept .1 .1 .0) returns-3)

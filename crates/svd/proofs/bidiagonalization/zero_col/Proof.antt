@@ -48,4 +48,4 @@ returns-2 c =
     (at-take-col .take-col .ensures .table ∙ column-still _ _ _ _ _ _ _ _ _ made stays, factor-still _ _ _ _ _ _ _ made stays)
 
 pub zero-col-spec : {M : Type 1} → statement M
-zero-col-spec = tie.close (tie.spec (λ c. search needs) (λ c. search needs) take-col-requires (λ c. search needs) (λ c. search needs) (λ c. search needs) lapply-householder-requires (λ c. search needs) rapply-householder-requires (λ c. search needs) (λ c. search needs) returns (λ c. search needs) returns-2)
+zero-col-spec = tie.close (tie.spec (λ c. search needs) (λ c. search needs) take-col-requires (λ c. search needs) (λ c. search needs) (λ c. search needs) lapply-householder-requires (λ c. search needs) rapply-householder-requires (λ c. c .before .before .before .before .before .before .before .lapply-householder .kept .0 ∙ c .before .before .before .before .before .before .before .before .before .before .before .before .before .before .before .take-col .kept .0) (λ c. c .before .before .rapply-householder .kept .0) returns (λ c. c .before .before .before .before .take-col .kept .0) returns-2)

@@ -52,4 +52,4 @@ returns-2 c =
     (row-still _ _ _ _ _ _ _ _ _ made stays, factor-still _ _ _ _ _ _ _ made stays)
 
 pub zero-row-spec : {M : Type 1} → statement M
-zero-row-spec = tie.close (tie.spec (λ c. search needs) mul-at add-at (λ c. search needs) params-requires (λ c. search needs) (λ c. search needs) (λ c. search needs) rapply-householder-requires (λ c. search needs) rapply-householder-requires-2 (λ c. search needs) (λ c. search needs) returns (λ c. search needs) returns-2)
+zero-row-spec = tie.close (tie.spec (λ c. search needs) mul-at add-at (λ c. search needs) params-requires (λ c. search needs) (λ c. search needs) (λ c. search needs) rapply-householder-requires (λ c. search needs) rapply-householder-requires-2 (λ c. c .before .before .before .before .before .before .before .rapply-householder .kept .0 ∙ c .before .before .before .before .before .before .before .before .before .before .before .before .before .before .before .params .kept .0) (λ c. c .before .before .rapply-householder2 .kept .0) returns (λ c. c .before .before .before .before .params .kept .0) returns-2)

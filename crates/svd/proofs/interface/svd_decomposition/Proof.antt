@@ -1,6 +1,7 @@
 -- `svd_decomposition` meets its contract: refused, or the whole run with no rows of U and V. Assumes nothing.
 use borrow.Author.Needs.{needs}
 use mathlib.Core.Bool.{false}
+use mathlib.Core.Path.{refl}
 use mathlib.Core.List.{[]}
 use Rattle.method.specs.Work.{work}
 use Rattle.checks.specs.Values.{settingsOf}
@@ -29,4 +30,4 @@ returns-2 c =
     plain-call (at-start .args .rows) (at-start .args .cols) (settingsOf (at-start .args .settings)) _ (at-start .args .b .now) _ _ _ (accepted-call false (at-start .args .rows) (at-start .args .cols) (settingsOf (at-start .args .settings)) (work (at-start .args .b .now) [] []) _ _ _ _ (at-first-refusal .first-refusal .ensures) (at-if1 .if1 .left) (c .accepted .ensures) (at-decompose .decompose .ensures))
 
 pub svd-decomposition-spec : {M : Type 1} → statement M
-svd-decomposition-spec = tie.close (tie.spec (λ c. search needs) (λ c. search needs) (λ c κs. search needs) (λ c κs. search needs) (λ c. search needs) (λ c. search needs) decompose-requires (λ c κs. search needs) (λ c. search needs) returns (λ c. search needs) returns-2)
+svd-decomposition-spec = tie.close (tie.spec (λ c. search needs) (λ c. search needs) (λ c κs. search needs) (λ c κs. search needs) (λ c. search needs) (λ c. search needs) decompose-requires (λ c κs. search needs) (λ c. refl) returns (λ c. c .before .before .before .before .before .before .decompose .kept .0) returns-2)
