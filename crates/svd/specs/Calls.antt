@@ -55,7 +55,9 @@ module _ (kept : Bool) (rows cols : ℕ) (s : Settings) (w : Work) where
   call-fit r e none = fit kept rows cols s w (ap (λ (x : Refusal). x .number) (sym e) ∙ none)
 
 -- a square factor of which all rows are kept, or none, lies in its list
-kept-lent : (kept : Bool) (n : ℕ) (a : List Float) → n ≤ mostSize → (kept ≡ true → length a ≡ n * n) → Lent n (pick kept n 0) a
+kept-lent :
+    (kept : Bool) (n : ℕ) (a : List Float) →
+    n ≤ mostSize → (kept ≡ true → length a ≡ n * n) → Lent n (pick kept n 0) a
 kept-lent true n a h e = record { few = h; whole = le-of-eq (sym (e refl)) }
 kept-lent false n a h e = record { few = zero-le; whole = rw zero-mul zero-le }
 

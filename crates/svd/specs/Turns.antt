@@ -19,14 +19,16 @@ module _ (floor : Float) (z : Sizes) where
   module _ (i j : ℕ) (b u v b′ f′ : List Float) where
     pub column-zeroed :
         b′ ≡ columnMatrix binary64 floor (z .rows) (z .cols) (z .stride) i j b →
-        f′ ≡ factorReflected binary64 (columnReflection binary64 floor (z .rows) (z .stride) i j b) (z .rows) (z .urows) i u →
+        f′ ≡
+        factorReflected binary64 (columnReflection binary64 floor (z .rows) (z .stride) i j b) (z .rows) (z .urows) i u →
         work b′ f′ v ≡ columnZeroed binary64 floor z i j (work b u v)
     unfolding columnZeroed
     column-zeroed eb eu = rw (eb, eu) refl
 
     pub row-zeroed :
         b′ ≡ rowMatrix binary64 floor (z .rows) (z .cols) (z .stride) i j b →
-        f′ ≡ factorReflected binary64 (reflectionOf binary64 floor (i * z .stride + j) (z .cols - j) b) (z .cols) (z .vrows) j v →
+        f′ ≡
+        factorReflected binary64 (reflectionOf binary64 floor (i * z .stride + j) (z .cols - j) b) (z .cols) (z .vrows) j v →
         work b′ u f′ ≡ rowZeroed binary64 floor z i j (work b u v)
     unfolding rowZeroed
     row-zeroed eb ev = rw (eb, ev) refl
@@ -51,14 +53,17 @@ module _ (floor : Float) (z : Sizes) where
       place-lower e d₁ d₂ = rw (d₂, d₁, e) (repeated-more 0 _ _ _ _ zero-le (rw e at places))
 
   -- the last place of a table that is not square: only its first line is cleared
-  module _ (upper : Bool) (c : ℕ) (w₀ w₁ w₂ : Work) (places : w₁ ≡ placesZeroed binary64 floor z upper (c - 1) w₀) (other : z .rows ≡ z .cols → ⊥) where
+  module _ (upper : Bool) (c : ℕ) (w₀ w₁ w₂ : Work) (places : w₁ ≡ placesZeroed binary64 floor z upper (c - 1) w₀)
+      (other : z .rows ≡ z .cols → ⊥) where
     last : w₂ ≡ firstZeroed binary64 floor z upper (c - 1) w₁ → w₂ ≡ bidiagonal binary64 floor z upper c w₀
     last d = d ∙ bidiagonal-other binary64 floor z upper c w₀ w₁ places other
 
-    pub last-upper : upper ≡ true → w₂ ≡ columnZeroed binary64 floor z (c - 1) (c - 1) w₁ → w₂ ≡ bidiagonal binary64 floor z upper c w₀
+    pub last-upper :
+        upper ≡ true → w₂ ≡ columnZeroed binary64 floor z (c - 1) (c - 1) w₁ → w₂ ≡ bidiagonal binary64 floor z upper c w₀
     last-upper e d = last (rw e d)
 
-    pub last-lower : upper ≡ false → w₂ ≡ rowZeroed binary64 floor z (c - 1) (c - 1) w₁ → w₂ ≡ bidiagonal binary64 floor z upper c w₀
+    pub last-lower :
+        upper ≡ false → w₂ ≡ rowZeroed binary64 floor z (c - 1) (c - 1) w₁ → w₂ ≡ bidiagonal binary64 floor z upper c w₀
     last-lower e d = last (rw e d)
 
 -- all places of c but the last, and the last
@@ -70,8 +75,17 @@ but-last h i = (
 )
 
 -- a place before the last one, and the next, lie inside
-pub place-inside : {z : Sizes} {k pivot : ℕ} → k < pivot → Inside z (pivot + 1) → (k < z .rows) × (k < z .cols) × (k + 1 < z .rows) × (k + 1 < z .cols)
-place-inside h i = (omega (arith, i .in-rows), omega (arith, i .in-cols), omega (arith, i .in-rows), omega (arith, i .in-cols))
+pub place-inside :
+    {z : Sizes} {k pivot : ℕ} →
+    k < pivot →
+    Inside z (pivot + 1) →
+    (k < z .rows) × (k < z .cols) × (k + 1 < z .rows) × (k + 1 < z .cols)
+place-inside h i = (
+  omega (arith, i .in-rows),
+  omega (arith, i .in-cols),
+  omega (arith, i .in-rows),
+  omega (arith, i .in-cols),
+)
 
 -- ---- a sweep
 
@@ -86,7 +100,11 @@ unfolding steps
 step-more z upper k w₀ w w₁ w₂ e d₁ d₂ = stepped-is binary64 z upper k w w₁ w₂ d₁ d₂ ∙ repeated-more 0 _ _ _ _ zero-le e
 
 -- and the lines that they turn lie inside
-pub step-inside : {z : Sizes} {k interior : ℕ} → k < interior → Inside z (interior + 2) → Inside z (k + 2) × Inside z (k + 3) × Inside z (k + 1 + 2)
+pub step-inside :
+    {z : Sizes} {k interior : ℕ} →
+    k < interior →
+    Inside z (interior + 2) →
+    Inside z (k + 2) × Inside z (k + 3) × Inside z (k + 1 + 2)
 step-inside h i = (
   record { in-rows = omega (arith, i .in-rows); in-cols = omega (arith, i .in-cols) },
   record { in-rows = omega (arith, i .in-rows); in-cols = omega (arith, i .in-cols) },

@@ -127,7 +127,9 @@ pub record Block (stride i j rows cols : ℕ) (a : List Float) : Type 0 where
   pub whole : (i + rows) * stride ≤ length a
 
 -- of which row k lies in the list from its start on
-pub row-in-block : {stride i j rows cols k : ℕ} {a : List Float} → k < rows → Block stride i j rows cols a → (i + k) * stride + j + cols ≤ length a
+pub row-in-block :
+    {stride i j rows cols k : ℕ} {a : List Float} →
+    k < rows → Block stride i j rows cols a → (i + k) * stride + j + cols ≤ length a
 row-in-block {stride} {i} h block = omega (arith, row-fits i stride h, block .wide, block .whole)
 
 -- ---- what a turn asks: lines i and i + 1, in the n entries from j on
@@ -152,7 +154,8 @@ module _ {z : Sizes} {b : List Float} {i j n : ℕ} (lines : Inside z (i + 2)) (
 -- where entry j of either line stands, be they rows or columns
 pub entry-inside :
     {z : Sizes} {b : List Float} {k : ℕ} (i j n : ℕ) →
-    1 ≤ n → Inside z (i + 2) → Inside z (j + n) → Roomy z b → k < i + 2 → (k * z .stride + j < length b) × (j * z .stride + k < length b)
+    1 ≤ n → Inside z (i + 2) → Inside z (j + n) → Roomy z b → k < i + 2 →
+    (k * z .stride + j < length b) × (j * z .stride + k < length b)
 entry-inside {z} {b} {k} i j n some lines entries t h =
     let k-row : k < z .rows = omega (arith, lines .in-rows) in
     let k-col : k < z .stride = omega (arith, lines .in-cols, t .wide) in
@@ -170,8 +173,15 @@ pub reaches : {n i long : ℕ} → i < n → n ≤ mostSize → long ≡ mostSiz
 reaches h few e = (omega arith, omega (arith, e))
 
 -- the table from row i and column j on
-pub table-block : {z : Sizes} {b : List Float} (i j : ℕ) → i ≤ z .rows → j ≤ z .cols → Roomy z b → Block (z .stride) i j (z .rows - i) (z .cols - j) b
-table-block {z} i j h g t = record { wide = omega (arith, t .wide); few = omega (arith, t .rows-few); whole = rw (rows-left i (z .rows) (z .stride) h) (t .whole) }
+pub table-block :
+    {z : Sizes} {b : List Float} (i j : ℕ) →
+    i ≤ z .rows → j ≤ z .cols → Roomy z b → Block (z .stride) i j (z .rows - i) (z .cols - j) b
+table-block {z} i j h g t =
+    record {
+      wide = omega (arith, t .wide);
+      few = omega (arith, t .rows-few);
+      whole = rw (rows-left i (z .rows) (z .stride) h) (t .whole);
+    }
 
 -- the kept rows of a factor from column i on
 pub factor-block : {n lines : ℕ} {a : List Float} (i : ℕ) → i ≤ n → Lent n lines a → Block n 0 i lines (n - i) a

@@ -98,7 +98,8 @@ fn chase(b: &mut [f64], u: &mut [f64], v: &mut [f64], z: Shape, upper: bool, int
 
 // The rotation that a sweep starts with.
 fn first_rotation(b: &[f64], stride: usize, upper: bool, k: usize, tl: usize, bl: usize) -> Rotation
-    requires { ⌜ Block stride k k 2 2 (now b) × (stride ≤ mostStride) × (tl ≡ k * stride + k) × (bl ≡ (k + 1) * stride + k) ⌝ }
+    requires { ⌜ Block stride k k 2 2 (now b) × (stride ≤ mostStride)
+        × (tl ≡ k * stride + k) × (bl ≡ (k + 1) * stride + k) ⌝ }
     ensures { λ r. ⌜ rotation r ≡ firstRotation binary64 stride upper k (now (b .entry)) ⌝ }
 {
     let tr = tl + 1;
