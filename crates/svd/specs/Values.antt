@@ -134,7 +134,8 @@ row-in-block {stride} {i} h block = omega (arith, row-fits i stride h, block .wi
 
 -- ---- what a turn asks: lines i and i + 1, in the n entries from j on
 
-module _ {z : Sizes} {b : List Float} {i j n : ℕ} (lines : Inside z (i + 2)) (entries : Inside z (j + n)) (t : Roomy z b) where
+module _ {z : Sizes} {b : List Float} {i j n : ℕ} (lines : Inside z (i + 2)) (entries : Inside z (j + n))
+    (t : Roomy z b) where
   pub rows-block : Block (z .stride) i j 2 n b
   rows-block =
       record {
@@ -162,10 +163,6 @@ entry-inside {z} {b} {k} i j n some lines entries t h =
     let j-row : j < z .rows = omega (arith, entries .in-rows) in
     let j-col : j < z .stride = omega (arith, entries .in-cols, t .wide) in
     (inside (z .stride) (length b) k-row j-col (t .whole), inside (z .stride) (length b) j-row k-col (t .whole))
-
--- columns i and i + 1 of a factor
-pub factor-pair : {n lines : ℕ} {a : List Float} (i : ℕ) → i + 2 ≤ n → Lent n lines a → Block n 0 i lines 2 a
-factor-pair i h l = record { wide = h; few = rw zero-add (l .few); whole = rw zero-add (l .whole) }
 
 -- ---- what a reflection asks: a vector long enough, and the lines from its own on
 

@@ -83,7 +83,8 @@ fn zero_row(b: &mut [f64], v: &mut [f64], z: Shape, i: usize, j: usize, floor: f
 }
 
 // All places of the diagonal but the last: in the upper form the place's column and then its row
-// right of the coupling, in the lower its row and then its column below it.
+// right of the coupling, in the lower its row and then its column below it. `next` rises before the
+// test, so that each form ends its turn by itself.
 fn zero_places(
     b: &mut [f64],
     u: &mut [f64],
