@@ -10,7 +10,7 @@ use Rattle.method.specs.Floats.{pick}
 use Rattle.method.specs.Work.{Work, work, packed}
 use Rattle.method.specs.Lengths.{SameLengths, outcome-lengths}
 use Rattle.method.specs.Walk.{Walk, State, stands}
-use Rattle.method.specs.Settings.{Settings}
+use Rattle.method.specs.Settings.{Settings, mostSize}
 use Rattle.method.specs.Checks.{Refusal, refusalOf}
 use Rattle.method.specs.Checks.Table.{Fit, fit}
 use Rattle.method.specs.Report.{Report, refused, reported}
@@ -55,7 +55,9 @@ module _ (kept : Bool) (rows cols : ℕ) (s : Settings) (w : Work) where
   call-fit r e none = fit kept rows cols s w (ap (λ (x : Refusal). x .number) (sym e) ∙ none)
 
 -- a square factor of which all rows are kept, or none, lies in its list
-kept-lent : (kept : Bool) (n : ℕ) (a : List Float) → n ≤ 48 → (kept ≡ true → length a ≡ n * n) → Lent n (pick kept n 0) a
+kept-lent :
+    (kept : Bool) (n : ℕ) (a : List Float) →
+    n ≤ mostSize → (kept ≡ true → length a ≡ n * n) → Lent n (pick kept n 0) a
 kept-lent true n a h e = record { few = h; whole = le-of-eq (sym (e refl)) }
 kept-lent false n a h e = record { few = zero-le; whole = rw zero-mul zero-le }
 

@@ -18,7 +18,7 @@ use Rattle.method.specs.Outcome.{rulesOf, card, isUpper, walkedFrom}
 use Rattle.method.specs.Settings.{Settings, mostSize, mostLimit, mostCredit, mostPasses}
 use Rattle.method.specs.Bidiagonal.{bidiagonal}
 use lib.Dec.{lit<}
-use Rattle.svd.specs.Values.{walkOf, cornerIn, Lending, lending-kept, Inside, Block}
+use Rattle.svd.specs.Values.{walkOf, cornerIn, mostStride, Lending, lending-kept, Inside, Block}
 use Rattle.svd.specs.declared.primitives.Walk.{Walk}
 
 -- a record from which n passes may be asked: its range lies in the table, its corner is that of the range, and its counts
@@ -80,14 +80,14 @@ module _ {z : Sizes} {upper : Bool} {n : ℕ} {s : Settings} {first : Walk} {sta
       record { in-rows = le-trans m (q .inside .in-rows); in-cols = le-trans m (q .inside .in-cols) }
 
   module _ (left : made < n) (wide : 1 < w .tally .range) (below : w .counter < s .limit) where
-    at : Here z upper w
-    at = here z upper w (i .placed) wide
+    places : Here z upper w
+    places = here z upper w (i .placed) wide
 
     goes : Going (s .limit) (walkOf w)
     goes = record { wide = wide; below = below }
 
     k-is : w .tally .range - 2 ≡ w .corner .inter
-    k-is = omega (arith, at .two)
+    k-is = omega (arith, places .two)
 
     -- one turn by each arm
     pub inv-drop :
@@ -123,22 +123,22 @@ module _ {z : Sizes} {upper : Bool} {n : ℕ} {s : Settings} {first : Walk} {sta
     pub test-asks :
         Lending z start →
         Block (z .stride) (w .corner .inter) (w .corner .inter) 2 2 (now .matrix)
-        × (z .stride ≤ 64)
+        × (z .stride ≤ mostStride)
         × (w .corner .e1 ≡ couplingPlace upper (z .stride) (w .corner .inter))
         × (w .corner .tl ≡ w .corner .inter * z .stride + w .corner .inter)
         × (w .corner .bl ≡ (w .corner .inter + 1) * z .stride + w .corner .inter)
     test-asks l =
         let r = l .table in
-        let in-rows : w .corner .inter + 2 ≤ z .rows = omega (arith, at .two, inv-inside .in-rows) in (
+        let in-rows : w .corner .inter + 2 ≤ z .rows = omega (arith, places .two, inv-inside .in-rows) in (
           record {
-            wide = omega (arith, at .two, inv-inside .in-cols, r .wide);
+            wide = omega (arith, places .two, inv-inside .in-cols, r .wide);
             few = le-trans in-rows (r .rows-few);
             whole = rw (i .same .matrix) (le-trans (mul-le-mul-right (z .stride) in-rows) (r .whole));
           },
           r .stride-few,
-          at .coupling,
-          at .topLeft,
-          at .bottomLeft,
+          places .coupling,
+          places .topLeft,
+          places .bottomLeft,
         )
 
     -- what a sweep asks
@@ -149,10 +149,10 @@ module _ {z : Sizes} {upper : Bool} {n : ℕ} {s : Settings} {first : Walk} {sta
         × (w .corner .tl ≡ w .corner .inter * z .stride + w .corner .inter)
         × (w .corner .bl ≡ (w .corner .inter + 1) * z .stride + w .corner .inter)
     sweep-asks l = (
-      record { in-rows = omega (arith, at .two, inv-inside .in-rows); in-cols = omega (arith, at .two, inv-inside .in-cols) },
+      record { in-rows = omega (arith, places .two, inv-inside .in-rows); in-cols = omega (arith, places .two, inv-inside .in-cols) },
       lending-kept (i .same) l,
-      at .topLeft,
-      at .bottomLeft,
+      places .topLeft,
+      places .bottomLeft,
     )
 
 -- ---- the ways out

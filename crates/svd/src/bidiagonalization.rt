@@ -1,6 +1,7 @@
 // The bidiagonal form (svd/bidiagonalization.rs, with its twins in svd/verify.rs): columns are
 // cleared below their heads and rows past theirs, and U and V take the same reflections. The plain
 // call keeps no rows of U and V, so one function stands for each pair of twins.
+use crate::householder::MOST_SIZE;
 use crate::householder::clear_line;
 use crate::householder::copy_line;
 use crate::householder::lapply_householder;
@@ -12,9 +13,10 @@ ghost use Prim.Native.Nat.{_+_, _-_, _*_, _≤_, _<_};
 ghost use lib.ListN.{length};
 ghost use lib.Ieee.{binary64};
 ghost use Rattle.method.specs.Work.{work};
+ghost use Rattle.method.specs.Settings.{mostSize};
 ghost use Rattle.method.specs.Reflection.{blank, reflectionOf};
 ghost use Rattle.method.specs.Bidiagonal.{columnReflection, columnMatrix, rowMatrix};
-ghost use Rattle.method.specs.Bidiagonal.{factorReflected, firstZeroed, thenZeroed, placesZeroed, bidiagonal};
+ghost use Rattle.method.specs.Bidiagonal.{factorReflected, placesZeroed, bidiagonal};
 ghost use Rattle.svd.specs.Values.{sizes, Roomy, Lent, Lending, Inside, Taken};
 
 // Makes the reflection of column j from row i on: the column keeps the head that it leaves, below
@@ -28,12 +30,12 @@ fn take_col(
     j: usize,
     floor: f64,
 ) -> f64
-    requires { ⌜ (i < rows) × (j < stride) × (rows ≤ 48) × (rows * stride ≤ length (now b)) × (now p ≡ blank) ⌝ }
+    requires { ⌜ (i < rows) × (j < stride) × (rows ≤ mostSize) × (rows * stride ≤ length (now b)) × (now p ≡ blank) ⌝ }
     ensures { λ r. ⌜ Taken floor rows stride i j (now (b .entry)) (now (b .exit)) (now (p .exit)) r ⌝ }
 {
     let n = rows - i;
     let head = i * stride + j;
-    let mut w = [0.0f64; 48];
+    let mut w = [0.0f64; MOST_SIZE];
     copy_line(b, &mut w, head, stride, n);
     clear_line(b, head, stride, n);
     let tau = params(&mut w, p, 0, n, floor);
@@ -51,14 +53,13 @@ fn zero_col(b: &mut [f64], u: &mut [f64], z: Shape, i: usize, j: usize, floor: f
 {
     let stride = z.stride;
     let n = z.rows - i;
-    let mut p = [0.0f64; 48];
+    let mut p = [0.0f64; MOST_SIZE];
     let tau = take_col(b, &mut p, z.rows, stride, i, j, floor);
-    if tau == 0.0 {
-        return;
+    if tau != 0.0 {
+        let right = j + 1;
+        lapply_householder(b, &p, tau, stride, i, right, n, z.cols - right);
+        rapply_householder(u, &p, tau, z.rows, 0, i, z.urows, n);
     }
-    let right = j + 1;
-    lapply_householder(b, &p, tau, stride, i, right, n, z.cols - right);
-    rapply_householder(u, &p, tau, z.rows, 0, i, z.urows, n);
 }
 
 // Row i, cleared right of column j; left as found below the floor.
@@ -71,60 +72,19 @@ fn zero_row(b: &mut [f64], v: &mut [f64], z: Shape, i: usize, j: usize, floor: f
 {
     let stride = z.stride;
     let n = z.cols - j;
-    let mut p = [0.0f64; 48];
+    let mut p = [0.0f64; MOST_SIZE];
     let at = i * stride + j;
     let tau = params(b, &mut p, at, n, floor);
-    if tau == 0.0 {
-        return;
-    }
-    let below = i + 1;
-    rapply_householder(b, &p, tau, stride, below, j, z.rows - below, n);
-    rapply_householder(v, &p, tau, z.cols, 0, j, z.vrows, n);
-}
-
-// Place k of the diagonal: its column in the upper form, its row in the lower.
-fn zero_first(
-    b: &mut [f64],
-    u: &mut [f64],
-    v: &mut [f64],
-    z: Shape,
-    upper: bool,
-    k: usize,
-    floor: f64,
-)
-    requires { ⌜ Inside (sizes z) (k + 1) × Lending (sizes z) (work (now b) (now u) (now v)) ⌝ }
-    ensures { λ _. ⌜ work (now (b .exit)) (now (u .exit)) (now (v .exit)) ≡
-        firstZeroed binary64 floor (sizes z) upper k (work (now (b .entry)) (now (u .entry)) (now (v .entry))) ⌝ }
-{
-    if upper {
-        zero_col(b, u, z, k, k, floor);
-    } else {
-        zero_row(b, v, z, k, k, floor);
+    if tau != 0.0 {
+        let below = i + 1;
+        rapply_householder(b, &p, tau, stride, below, j, z.rows - below, n);
+        rapply_householder(v, &p, tau, z.cols, 0, j, z.vrows, n);
     }
 }
 
-// Then its row right of the coupling in the upper form, its column below it in the lower.
-fn zero_then(
-    b: &mut [f64],
-    u: &mut [f64],
-    v: &mut [f64],
-    z: Shape,
-    upper: bool,
-    k: usize,
-    floor: f64,
-)
-    requires { ⌜ Inside (sizes z) (k + 2) × Lending (sizes z) (work (now b) (now u) (now v)) ⌝ }
-    ensures { λ _. ⌜ work (now (b .exit)) (now (u .exit)) (now (v .exit)) ≡
-        thenZeroed binary64 floor (sizes z) upper k (work (now (b .entry)) (now (u .entry)) (now (v .entry))) ⌝ }
-{
-    if upper {
-        zero_row(b, v, z, k, k + 1, floor);
-    } else {
-        zero_col(b, u, z, k + 1, k, floor);
-    }
-}
-
-// All places of the diagonal but the last.
+// All places of the diagonal but the last: in the upper form the place's column and then its row
+// right of the coupling, in the lower its row and then its column below it. `next` rises before the
+// test, so that each form ends its turn by itself.
 fn zero_places(
     b: &mut [f64],
     u: &mut [f64],
@@ -138,13 +98,22 @@ fn zero_places(
     ensures { λ _. ⌜ work (now (b .exit)) (now (u .exit)) (now (v .exit)) ≡
         placesZeroed binary64 floor (sizes z) upper pivot (work (now (b .entry)) (now (u .entry)) (now (v .entry))) ⌝ }
 {
-    for k in 0..pivot {
-        zero_first(b, u, v, z, upper, k, floor);
-        zero_then(b, u, v, z, upper, k, floor);
+    let mut next = 0;
+    while next < pivot {
+        let k = next;
+        next += 1;
+        if upper {
+            zero_col(b, u, z, k, k, floor);
+            zero_row(b, v, z, k, k + 1, floor);
+        } else {
+            zero_row(b, v, z, k, k, floor);
+            zero_col(b, u, z, k + 1, k, floor);
+        }
     }
 }
 
-// The bidiagonal form: `card` is the smaller of rows and columns, `upper` says which form.
+// The bidiagonal form: all places but the last, and the last one's line where the table is not
+// square. `card` is the smaller of rows and columns, `upper` says which form.
 pub(crate) fn bidiagonal(
     b: &mut [f64],
     u: &mut [f64],
@@ -161,6 +130,10 @@ pub(crate) fn bidiagonal(
     let pivot = card - 1;
     zero_places(b, u, v, z, upper, pivot, floor);
     if z.rows != z.cols {
-        zero_first(b, u, v, z, upper, pivot, floor);
+        if upper {
+            zero_col(b, u, z, pivot, pivot, floor);
+        } else {
+            zero_row(b, v, z, pivot, pivot, floor);
+        }
     }
 }

@@ -15,9 +15,9 @@ ghost use lib.ListN.{length};
 ghost use lib.Ieee.{binary64};
 ghost use Rattle.method.specs.Work.{work, couplingPlace};
 ghost use Rattle.method.specs.Walk.{stands, run};
-ghost use Rattle.method.specs.Chase.{along, turned, pushed, stepped, steps, negligible, firstRotation, swept};
+ghost use Rattle.method.specs.Chase.{along, turned, pushed, steps, negligible, firstRotation, swept};
 ghost use Rattle.method.specs.Outcome.{rulesOf};
-ghost use Rattle.svd.specs.Values.{rotation, sizes, walkOf, Lending, Inside, Block};
+ghost use Rattle.svd.specs.Values.{rotation, sizes, walkOf, mostStride, Lending, Inside, Block};
 ghost use Rattle.svd.specs.Passes.{Standing};
 
 // Entry j of line i, a row or a column.
@@ -27,10 +27,11 @@ fn along(b: &[f64], stride: usize, rowwise: bool, i: usize, j: usize) -> f64
 {
     if rowwise {
         let at = i * stride + j;
-        return b[at];
+        b[at]
+    } else {
+        let at = j * stride + i;
+        b[at]
     }
-    let at = j * stride + i;
-    b[at]
 }
 
 // Lines i and i + 1, turned in the n entries from j on. Rows turn the same columns of U with them,
@@ -83,30 +84,22 @@ fn push(
     turn(b, u, v, z, g, rowwise, i, j, n);
 }
 
-// One step down the diagonal.
-fn step(b: &mut [f64], u: &mut [f64], v: &mut [f64], z: Shape, upper: bool, k: usize)
-    requires { ⌜ Inside (sizes z) (k + 3) × Lending (sizes z) (work (now b) (now u) (now v)) ⌝ }
-    ensures { λ _. ⌜ work (now (b .exit)) (now (u .exit)) (now (v .exit)) ≡
-        stepped binary64 (sizes z) upper k (work (now (b .entry)) (now (u .entry)) (now (v .entry))) ⌝ }
-{
-    push(b, u, v, z, upper, k, k, 3);
-    push(b, u, v, z, !upper, k + 1, k, 3);
-}
-
-// The steps down the interior of the live corner.
+// The steps down the interior of the live corner, each of two pushes.
 fn chase(b: &mut [f64], u: &mut [f64], v: &mut [f64], z: Shape, upper: bool, interior: usize)
     requires { ⌜ Inside (sizes z) (interior + 2) × Lending (sizes z) (work (now b) (now u) (now v)) ⌝ }
     ensures { λ _. ⌜ work (now (b .exit)) (now (u .exit)) (now (v .exit)) ≡
         steps binary64 (sizes z) upper interior (work (now (b .entry)) (now (u .entry)) (now (v .entry))) ⌝ }
 {
     for k in 0..interior {
-        step(b, u, v, z, upper, k);
+        push(b, u, v, z, upper, k, k, 3);
+        push(b, u, v, z, !upper, k + 1, k, 3);
     }
 }
 
 // The rotation that a sweep starts with.
 fn first_rotation(b: &[f64], stride: usize, upper: bool, k: usize, tl: usize, bl: usize) -> Rotation
-    requires { ⌜ Block stride k k 2 2 (now b) × (stride ≤ 64) × (tl ≡ k * stride + k) × (bl ≡ (k + 1) * stride + k) ⌝ }
+    requires { ⌜ Block stride k k 2 2 (now b) × (stride ≤ mostStride)
+        × (tl ≡ k * stride + k) × (bl ≡ (k + 1) * stride + k) ⌝ }
     ensures { λ r. ⌜ rotation r ≡ firstRotation binary64 stride upper k (now (b .entry)) ⌝ }
 {
     let tr = tl + 1;
@@ -150,7 +143,7 @@ fn is_negligible(
     bl: usize,
     s: Settings,
 ) -> bool
-    requires { ⌜ Block stride k k 2 2 (now b) × (stride ≤ 64)
+    requires { ⌜ Block stride k k 2 2 (now b) × (stride ≤ mostStride)
         × (e1 ≡ couplingPlace upper stride k) × (tl ≡ k * stride + k) × (bl ≡ (k + 1) * stride + k) ⌝ }
     ensures { λ r. ⌜ r ≡ negligible binary64 (s .tolerance) (s .absolute) stride upper k (now (b .entry)) ⌝ }
 {

@@ -8,11 +8,15 @@ ghost use Rattle.method.specs.Reflection.{blank, lineCopied, lineCleared, times
 ghost use Rattle.method.specs.Reflection.{largestOf, scaled, squaresOf, reflectionOf};
 ghost use Rattle.method.specs.Reflection.{rowTimes, rowLess, rowReflected, reflectedRight};
 ghost use Rattle.method.specs.Reflection.{rowAdded, columnSums, rowLessAll, rowLessTimes, rowsLess, reflectedLeft};
+ghost use Rattle.method.specs.Settings.{mostSize};
 ghost use Rattle.svd.specs.Values.{reflection, Block};
+
+// The most rows and the most columns of a table, and so the longest vector: the definition's `mostSize`.
+pub(crate) const MOST_SIZE: usize = 48;
 
 // The line of n entries from `at` on, `step` apart, into a blank vector.
 pub(crate) fn copy_line(a: &[f64], w: &mut [f64], at: usize, step: usize, n: usize)
-    requires { ⌜ (at + n * step < length (now a) + step) × (n ≤ 48) × (now w ≡ blank) ⌝ }
+    requires { ⌜ (at + n * step < length (now a) + step) × (n ≤ mostSize) × (now w ≡ blank) ⌝ }
     ensures { λ _. ⌜ now (w .exit) ≡ lineCopied at step n (now (a .entry)) ⌝ }
 {
     for k in 0..n {
@@ -60,7 +64,7 @@ fn largest(v: &[f64], at: usize, n: usize) -> f64
 
 // The n entries from `at` on, times x, into a blank vector.
 fn scale_into(v: &[f64], w: &mut [f64], at: usize, n: usize, x: f64)
-    requires { ⌜ (at + n ≤ length (now v)) × (n ≤ 48) × (now w ≡ blank) ⌝ }
+    requires { ⌜ (at + n ≤ length (now v)) × (n ≤ mostSize) × (now w ≡ blank) ⌝ }
     ensures { λ _. ⌜ now (w .exit) ≡ scaled binary64 (now (v .entry)) at x n ⌝ }
 {
     for k in 0..n {
@@ -84,27 +88,28 @@ fn squares(w: &[f64], n: usize) -> f64
 // Makes the reflection of the n entries of v from `at` on: what it leaves in v, its vector in p,
 // which comes blank, and its tau.
 pub(crate) fn params(v: &mut [f64], p: &mut [f64], at: usize, n: usize, floor: f64) -> f64
-    requires { ⌜ (1 ≤ n) × (at + n ≤ length (now v)) × (n ≤ 48) × (now p ≡ blank) ⌝ }
+    requires { ⌜ (1 ≤ n) × (at + n ≤ length (now v)) × (n ≤ mostSize) × (now p ≡ blank) ⌝ }
     ensures { λ r. ⌜ reflection (now (v .exit)) (now (p .exit)) r ≡
         reflectionOf binary64 floor at n (now (v .entry)) ⌝ }
 {
     let max = largest(v, at, n);
     if max < floor {
         p[0] = 1.0;
-        return 0.0;
+        0.0
+    } else {
+        let over = 1.0 / max;
+        scale_into(v, p, at, n, over);
+        clear_line(v, at, 1, n);
+        let sum = squares(p, n);
+        let head = p[0];
+        let g = float::sign(head) * float::square_root(sum);
+        let scale = head + g;
+        let by = 1.0 / scale;
+        scale_from(p, 1, n, by);
+        v[at] = (-g) * max;
+        p[0] = 1.0;
+        scale / g
     }
-    let over = 1.0 / max;
-    scale_into(v, p, at, n, over);
-    clear_line(v, at, 1, n);
-    let sum = squares(p, n);
-    let head = p[0];
-    let g = float::sign(head) * float::square_root(sum);
-    let scale = head + g;
-    let by = 1.0 / scale;
-    scale_from(p, 1, n, by);
-    v[at] = (-g) * max;
-    p[0] = 1.0;
-    scale / g
 }
 
 // The row at `off` times p, whose head counts as 1.
@@ -184,7 +189,7 @@ fn sum_columns(
     rows: usize,
     cols: usize,
 )
-    requires { ⌜ (1 ≤ rows) × (rows ≤ length (now p)) × (cols ≤ 48) × Block stride i j rows cols (now a)
+    requires { ⌜ (1 ≤ rows) × (rows ≤ length (now p)) × (cols ≤ mostSize) × Block stride i j rows cols (now a)
         × (now w ≡ blank) ⌝ }
     ensures { λ _. ⌜ now (w .exit) ≡ columnSums binary64 (now (p .entry)) stride i j rows cols (now (a .entry)) ⌝ }
 {
@@ -250,11 +255,11 @@ pub(crate) fn lapply_householder(
     rows: usize,
     cols: usize,
 )
-    requires { ⌜ (1 ≤ rows) × (rows ≤ length (now p)) × (cols ≤ 48) × Block stride i j rows cols (now a) ⌝ }
+    requires { ⌜ (1 ≤ rows) × (rows ≤ length (now p)) × (cols ≤ mostSize) × Block stride i j rows cols (now a) ⌝ }
     ensures { λ _. ⌜ now (a .exit) ≡
         reflectedLeft binary64 (now (p .entry)) tau stride i j rows cols (now (a .entry)) ⌝ }
 {
-    let mut w = [0.0f64; 48];
+    let mut w = [0.0f64; MOST_SIZE];
     sum_columns(a, p, &mut w, stride, i, j, rows, cols);
     scale_from(&mut w, 0, cols, tau);
     rows_less(a, p, &w, stride, i, j, rows, cols);

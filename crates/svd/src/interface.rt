@@ -13,11 +13,12 @@ ghost use Prim.Native.Nat.{_≤_};
 ghost use lib.Ieee.{binary64};
 ghost use Rattle.method.specs.Work.{work};
 ghost use Rattle.method.specs.Walk.{stands};
+ghost use Rattle.method.specs.Settings.{mostLimit, mostCredit};
 ghost use Rattle.method.specs.Outcome.{card, outcomeOf, walkedFrom, plainOutcome, fullOutcome};
 ghost use Rattle.checks.specs.Values.{settingsOf};
 ghost use Rattle.svd.specs.Values.{sizes, walkOf, reportOf, Lending, Inside};
 
-// No allowed call makes more passes.
+// No allowed call makes more passes: the definition's `mostPasses`.
 const MOST_PASSES: usize = 146000;
 
 fn smaller_size(rows: usize, cols: usize) -> usize
@@ -29,7 +30,7 @@ fn smaller_size(rows: usize, cols: usize) -> usize
 
 // The bidiagonal form, and then the walk.
 fn decompose(b: &mut [f64], u: &mut [f64], v: &mut [f64], z: Shape, s: Settings) -> Walk
-    requires { ⌜ Inside (sizes z) 1 × (s .limit ≤ 100000) × (s .credit ≤ 1000)
+    requires { ⌜ Inside (sizes z) 1 × (s .limit ≤ mostLimit) × (s .credit ≤ mostCredit)
         × Lending (sizes z) (work (now b) (now u) (now v)) ⌝ }
     ensures { λ r. ⌜ stands (walkOf r) (work (now (b .exit)) (now (u .exit)) (now (v .exit))) ≡
         walkedFrom binary64 (sizes z) (z .rows) (z .cols) (settingsOf s)
@@ -58,18 +59,20 @@ pub fn full_svd_decomposition(
 {
     let refusal = first_refusal(b, u, v, true, rows, cols, settings);
     if refusal.number != 0 {
-        return Report::refused(refusal);
+        Report::refused(refusal)
+    } else {
+        let z = Shape {
+            rows: rows,
+            cols: cols,
+            stride: cols,
+            urows: rows,
+            vrows: cols,
+        };
+        let walk = decompose(b, u, v, z, settings);
+        Report::accepted(walk, b)
     }
-    let z = Shape {
-        rows: rows,
-        cols: cols,
-        stride: cols,
-        urows: rows,
-        vrows: cols,
-    };
-    let walk = decompose(b, u, v, z, settings);
-    Report::accepted(walk, b)
 }
+
 // The split of the table alone.
 pub fn svd_decomposition(b: &mut [f64], rows: usize, cols: usize, settings: Settings) -> Report
     ensures { λ r. ⌜ outcomeOf (reportOf r) (work (now (b .exit)) [] []) ≡
@@ -79,15 +82,16 @@ pub fn svd_decomposition(b: &mut [f64], rows: usize, cols: usize, settings: Sett
     let mut v = [0.0f64; 0];
     let unfit = first_refusal(b, &u, &v, false, rows, cols, settings);
     if unfit.number != 0 {
-        return Report::refused(unfit);
+        Report::refused(unfit)
+    } else {
+        let z = Shape {
+            rows: rows,
+            cols: cols,
+            stride: cols,
+            urows: 0,
+            vrows: 0,
+        };
+        let walk = decompose(b, &mut u, &mut v, z, settings);
+        Report::accepted(walk, b)
     }
-    let z = Shape {
-        rows: rows,
-        cols: cols,
-        stride: cols,
-        urows: 0,
-        vrows: 0,
-    };
-    let walk = decompose(b, &mut u, &mut v, z, settings);
-    Report::accepted(walk, b)
 }

@@ -6,8 +6,9 @@ ghost use lib.Ieee.{binary64};
 ghost use Rattle.method.specs.Chase.{singular};
 ghost use Rattle.method.specs.Walk.{begun, afterDrop, afterSweep};
 ghost use Rattle.method.specs.Walk.Loop.{Room};
+ghost use Rattle.method.specs.Settings.{mostSize};
 ghost use Rattle.method.specs.Positions.{cornerOf, cornerDropped};
-ghost use Rattle.svd.specs.Values.{walkOf, cornerIn};
+ghost use Rattle.svd.specs.Values.{walkOf, cornerIn, mostStride};
 use crate::tally::Tally;
 
 // The eigenvalue of M'M nearest to its last entry, for M of rows (m00, m01) and (m10, m11).
@@ -41,7 +42,7 @@ pub struct Corner {
 impl Corner {
     // The corner of a range.
     pub(crate) fn of_range(upper: bool, range: usize, stride: usize) -> Corner
-        requires { ⌜ (range ≤ 48) × (stride ≤ 64) ⌝ }
+        requires { ⌜ (range ≤ mostSize) × (stride ≤ mostStride) ⌝ }
         ensures { λ r. ⌜ cornerIn r ≡ cornerOf upper stride range ⌝ }
     {
         let k = saturating_sub(range, 2);
@@ -65,7 +66,7 @@ impl Corner {
 
     // The corner after a drop.
     pub(crate) fn dropped(self, stride: usize) -> Corner
-        requires { ⌜ stride ≤ 64 ⌝ }
+        requires { ⌜ stride ≤ mostStride ⌝ }
         ensures { λ r. ⌜ cornerIn r ≡ cornerDropped stride (cornerIn self) ⌝ }
     {
         let shift = stride + 1;
@@ -88,7 +89,7 @@ pub struct Walk {
 impl Walk {
     // The record at the start, over a diagonal of `card` entries.
     pub(crate) fn new(upper: bool, card: usize, stride: usize) -> Walk
-        requires { ⌜ (card ≤ 48) × (stride ≤ 64) ⌝ }
+        requires { ⌜ (card ≤ mostSize) × (stride ≤ mostStride) ⌝ }
         ensures { λ r. ⌜ (walkOf r ≡ begun card) × (cornerIn (r .corner) ≡ cornerOf upper stride card) ⌝ }
     {
         Walk {
@@ -100,7 +101,7 @@ impl Walk {
 
     // The record after a pass that drops.
     pub(crate) fn drop(self, stride: usize, credit: usize) -> Walk
-        requires { ⌜ (1 < self .tally .range) × (stride ≤ 64) × Room 1 (walkOf self) ⌝ }
+        requires { ⌜ (1 < self .tally .range) × (stride ≤ mostStride) × Room 1 (walkOf self) ⌝ }
         ensures { λ r. ⌜ (walkOf r ≡ afterDrop credit (walkOf self))
             × (cornerIn (r .corner) ≡ cornerDropped stride (cornerIn (self .corner))) ⌝ }
     {

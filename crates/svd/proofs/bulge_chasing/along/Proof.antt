@@ -11,4 +11,4 @@ returns-2 : tie.Need-returns-2
 returns-2 c = rw (c .before .if1 .left) refl
 
 pub along-spec : {M : Type 1} → statement M
-along-spec = tie.close (tie.spec (λ c. search needs) (λ c. search needs) (λ c. search needs) (λ c. search needs) returns (λ c. search needs) (λ c. search needs) (λ c. search needs) (λ c. search needs) returns-2)
+along-spec = tie.close (tie.spec (λ c. search needs) (λ c. search needs) (λ c. search needs) (λ c. search needs) (λ c. search needs) (λ c. search needs) (λ c. search needs) (λ c. search needs) returns returns-2)

@@ -82,4 +82,4 @@ returns-3 : tie.Need-returns-3 Inv-loop μ-loop
 returns-3 c = inv-all (c .before .loop .inv) (c .loop-test .left)
 
 pub decomp-givens-spec : {M : Type 1} → statement M
-decomp-givens-spec = tie.close (tie.spec Inv-loop μ-loop loop-holds (λ c. search needs) is-negligible-requires drop-requires (λ c. search needs) loop-again givens-iteration-requires sweep-requires (λ c. search needs) loop-again-2 (λ c. search needs) (λ c. search needs) (λ c. search needs) returns (λ c. search needs) (λ c. search needs) (λ c. search needs) returns-2 (λ c. search needs) (λ c. search needs) (λ c. search needs) returns-3)
+decomp-givens-spec = tie.close (tie.spec Inv-loop μ-loop loop-holds (λ c. search needs) is-negligible-requires drop-requires (λ c. search needs) loop-again givens-iteration-requires sweep-requires (λ c. search needs) loop-again-2 (λ c. c .before .before .before .before .before .before .loop .inv .same .matrix) (λ c. c .before .before .before .before .before .before .loop .inv .same .u) (λ c. c .before .before .before .before .before .before .loop .inv .same .v) returns (λ c. c .before .before .before .loop .inv .same .matrix) (λ c. c .before .before .before .loop .inv .same .u) (λ c. c .before .before .before .loop .inv .same .v) returns-2 (λ c. c .before .loop .inv .same .matrix) (λ c. c .before .loop .inv .same .u) (λ c. c .before .loop .inv .same .v) returns-3)

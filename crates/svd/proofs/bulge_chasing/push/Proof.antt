@@ -1,21 +1,22 @@
 -- `push` meets its contract: the rotation of the two entries, and then the turn. Assumes nothing.
 use borrow.Author.Needs.{needs}
 use mathlib.Core.Path.{refl}
-use Prim.Native.Nat.{_+_}
 use native.Mathlib.Omega.{arith}
-use Rattle.method.specs.Index.{row-in}
+use Rattle.svd.specs.Values.{entry-inside}
 use Rattle.svd.proofs.bulge_chasing.push.Statement.{statement}
 use Rattle.svd.proofs.bulge_chasing.push.Tie as tie
 
 along-requires : tie.Need-along-requires
 along-requires c κs =
     let at-start = c .before .before .before .before in
-    (omega (arith, row-in (at-start .args .i) (at-start .args .z .rows) (at-start .args .z .stride) (omega arith)), omega (arith, row-in (at-start .args .j) (at-start .args .z .rows) (at-start .args .z .stride) (omega arith)))
+    let pre = at-start .pre in
+    entry-inside (at-start .args .i) (at-start .args .j) (at-start .args .n) (pre .0) (pre .1) (pre .2) (pre .3 .table) (omega arith)
 
 along-requires-2 : tie.Need-along-requires-2
 along-requires-2 c κs =
     let at-start = c .before .before .before .before .before .before in
-    (omega (arith, row-in (at-start .args .i + 1) (at-start .args .z .rows) (at-start .args .z .stride) (omega arith)), omega (arith, row-in (at-start .args .j) (at-start .args .z .rows) (at-start .args .z .stride) (omega arith)))
+    let pre = at-start .pre in
+    entry-inside (at-start .args .i) (at-start .args .j) (at-start .args .n) (pre .0) (pre .1) (pre .2) (pre .3 .table) (omega arith)
 
 returns : tie.Need-returns
 returns c =

@@ -1,21 +1,16 @@
 -- `turn` meets its contract: by whether the lines are rows, which U follows, or columns, which V follows. Assumes nothing.
 use borrow.Author.Needs.{needs}
 use mathlib.Core.Path.{refl}
-use native.Mathlib.Omega.{arith}
-use native.Mathlib.Nat.{mul-le-mul-right}
 use Rattle.method.specs.Chase.{turned}
+use Rattle.svd.specs.Values.{rows-block, columns-block}
 use Rattle.svd.proofs.bulge_chasing.turn.Statement.{statement}
 use Rattle.svd.proofs.bulge_chasing.turn.Tie as tie
 
 apply-g-left-requires : tie.Need-apply-g-left-requires
-apply-g-left-requires c κs =
-    let at-start = c .before .before .before .before .before in
-    record { wide = omega arith; few = omega arith; whole = omega (arith, mul-le-mul-right (at-start .args .z .stride) (at-start .pre .0 .in-rows)) }
+apply-g-left-requires c κs = let pre = c .before .before .before .before .before .pre in rows-block (pre .0) (pre .1) (pre .2 .table)
 
 apply-gt-right-requires-2 : tie.Need-apply-gt-right-requires-2
-apply-gt-right-requires-2 c κs =
-    let at-start = c .before .before .before .before .before in
-    record { wide = omega arith; few = omega arith; whole = omega (arith, mul-le-mul-right (at-start .args .z .stride) (at-start .pre .1 .in-rows)) }
+apply-gt-right-requires-2 c κs = let pre = c .before .before .before .before .before .pre in columns-block (pre .0) (pre .1) (pre .2 .table)
 
 returns : tie.Need-returns
 unfolding turned

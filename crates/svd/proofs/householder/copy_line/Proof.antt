@@ -5,6 +5,7 @@ use mathlib.Core.Path.{_≡_, ap, _∙_}
 use native.Mathlib.Omega.{arith}
 use native.Mathlib.Nat.{le-antisymm}
 use lib.ListN.{length, length-set}
+use Rattle.method.specs.Settings.{mostSize}
 use Rattle.method.specs.Index.{row-below}
 use Rattle.method.specs.Repeated.{repeated-none, repeated-more}
 use Rattle.method.specs.Reflection.{lineCopied}
@@ -12,7 +13,7 @@ use Rattle.svd.proofs.householder.copy_line.Statement.{statement}
 use Rattle.svd.proofs.householder.copy_line.Tie as tie
 
 abbrev Inv-loop : tie.InvT-loop
-Inv-loop a w₀ at step n k₀ w k = (k ≤ n) × (length w ≡ 48) × (w ≡ lineCopied at step k a)
+Inv-loop a w₀ at step n k₀ w k = (k ≤ n) × (length w ≡ mostSize) × (w ≡ lineCopied at step k a)
 
 abbrev μ-loop : tie.MeasureT-loop
 μ-loop a w₀ at step n k₀ w k = n - k

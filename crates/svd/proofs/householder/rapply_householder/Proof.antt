@@ -6,7 +6,7 @@ use native.Mathlib.Omega.{arith}
 use native.Mathlib.Nat.{le-antisymm}
 use lib.ListN.{length}
 use lib.Ieee.{binary64}
-use Rattle.method.specs.Index.{row-fits}
+use Rattle.svd.specs.Values.{row-in-block}
 use Rattle.method.specs.Repeated.{repeated-none, repeated-more}
 use Rattle.method.specs.Reflection.{reflectedRight}
 use Rattle.svd.proofs.householder.rapply_householder.Statement.{statement}
@@ -22,22 +22,6 @@ loop-holds : tie.Need-loop-holds Inv-loop μ-loop
 unfolding reflectedRight
 loop-holds c = (omega arith, refl, repeated-none 0 _ _)
 
-add-off : tie.Need-add-off Inv-loop μ-loop
-add-off c = let at-start = c .before .before .before .before in omega (arith, row-fits (at-start .args .i) (at-start .args .stride) (c .loop-test .taken))
-
-mul-off : tie.Need-mul-off Inv-loop μ-loop
-mul-off c =
-    let at-start = c .before .before .before .before in
-    record { fits = omega (arith, row-fits (at-start .args .i) (at-start .args .stride) (c .loop-test .taken)) }
-
-add-off-2 : tie.Need-add-off-2 Inv-loop μ-loop
-add-off-2 c = let at-start = c .before .before .before .before in omega (arith, row-fits (at-start .args .i) (at-start .args .stride) (c .loop-test .taken))
-
-reflect-row-requires : tie.Need-reflect-row-requires Inv-loop μ-loop
-reflect-row-requires c κs =
-    let at-start = c .before .before .before .before .before in
-    (omega arith, omega arith, omega (arith, row-fits (at-start .args .i) (at-start .args .stride) (c .before .loop-test .taken)))
-
 loop-again : tie.Need-loop-again Inv-loop μ-loop
 unfolding reflectedRight
 loop-again c = (omega arith, omega arith, rw (c .before .before .reflect-row .ensures) (repeated-more 0 _ _ _ _ zero-le (c .before .before .before .before .before .loop .inv .2)))
@@ -46,4 +30,4 @@ returns : tie.Need-returns Inv-loop μ-loop
 returns c = rw (le-antisymm (c .before .loop .inv .0) (c .loop-test .left)) at (c .before .loop .inv .2)
 
 pub rapply-householder-spec : {M : Type 1} → statement M
-rapply-householder-spec = tie.close (tie.spec Inv-loop μ-loop loop-holds add-off mul-off add-off-2 reflect-row-requires (λ c. search needs) (λ c. search needs) loop-again (λ c. search needs) returns)
+rapply-householder-spec = tie.close (tie.spec Inv-loop μ-loop loop-holds (λ c. omega (arith, row-in-block (c .loop-test .taken) (c .before .before .before .before .pre .2))) (λ c. record { fits = omega (arith, row-in-block (c .loop-test .taken) (c .before .before .before .before .pre .2)) }) (λ c. omega (arith, row-in-block (c .loop-test .taken) (c .before .before .before .before .pre .2))) (λ c κs. (c .before .before .before .before .before .pre .0, c .before .before .before .before .before .pre .1, omega (arith, row-in-block (c .before .loop-test .taken) (c .before .before .before .before .before .pre .2)))) (λ c. search needs) (λ c. search needs) loop-again (λ c. search needs) returns)

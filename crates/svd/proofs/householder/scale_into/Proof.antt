@@ -6,13 +6,14 @@ use native.Mathlib.Omega.{arith}
 use native.Mathlib.Nat.{le-antisymm}
 use lib.ListN.{length, length-set}
 use lib.Ieee.{binary64}
+use Rattle.method.specs.Settings.{mostSize}
 use Rattle.method.specs.Repeated.{repeated-none, repeated-more}
 use Rattle.method.specs.Reflection.{scaled}
 use Rattle.svd.proofs.householder.scale_into.Statement.{statement}
 use Rattle.svd.proofs.householder.scale_into.Tie as tie
 
 abbrev Inv-loop : tie.InvT-loop
-Inv-loop v w₀ at n x k₀ w k = (k ≤ n) × (length w ≡ 48) × (w ≡ scaled binary64 v at x k)
+Inv-loop v w₀ at n x k₀ w k = (k ≤ n) × (length w ≡ mostSize) × (w ≡ scaled binary64 v at x k)
 
 abbrev μ-loop : tie.MeasureT-loop
 μ-loop v w₀ at n x k₀ w k = n - k

@@ -1,5 +1,6 @@
 -- `decompose` meets its contract: the bidiagonal form, and then passes enough. Assumes nothing.
 use borrow.Author.Needs.{needs}
+use mathlib.Core.Path.{_∙_}
 use native.Mathlib.Omega.{arith}
 use lib.Ieee.{binary64}
 use Rattle.method.specs.Lengths.{bidiagonal-kept}
@@ -27,4 +28,4 @@ returns c =
     decomposed (sizes (at-start .args .z)) (settingsOf (at-start .args .s)) _ _ _ _ _ _ (at-smaller-size .smaller-size .ensures .0) (omega (arith, at-smaller-size .smaller-size .ensures .2, at-start .pre .3 .table .rows-few)) (at-start .pre .1) (at-start .pre .2) (at-bidiagonal .bidiagonal .ensures) (at-new .new .ensures .0) (at-decomp-givens .decomp-givens .ensures)
 
 pub decompose-spec : {M : Type 1} → statement M
-decompose-spec = tie.close (tie.spec (λ c κs. search needs) (λ c κs. search needs) (λ c κs. search needs) decomp-givens-requires (λ c. search needs) (λ c. search needs) (λ c. search needs) returns)
+decompose-spec = tie.close (tie.spec (λ c κs. search needs) (λ c κs. search needs) (λ c κs. search needs) decomp-givens-requires (λ c. c .before .before .before .before .before .before .decomp-givens .kept .0 ∙ c .before .before .before .before .before .before .before .before .before .before .before .before .before .before .before .before .before .bidiagonal .kept .0) (λ c. c .before .before .before .before .before .before .decomp-givens .kept .1 .0 ∙ c .before .before .before .before .before .before .before .before .before .before .before .before .before .before .before .before .before .bidiagonal .kept .1 .0) (λ c. c .before .before .before .before .before .before .decomp-givens .kept .1 .1 .0 ∙ c .before .before .before .before .before .before .before .before .before .before .before .before .before .before .before .before .before .bidiagonal .kept .1 .1 .0) returns)

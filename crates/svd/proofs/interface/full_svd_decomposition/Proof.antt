@@ -9,8 +9,10 @@ use Rattle.svd.proofs.interface.full_svd_decomposition.Tie as tie
 
 returns : tie.Need-returns
 returns c =
-    let at-start = c .before .before .before .before .before .before .before .before .before .before in
-    refused-call true (at-start .args .rows) (at-start .args .cols) (settingsOf (at-start .args .settings)) (work (at-start .args .b .now) (at-start .args .u .now) (at-start .args .v .now)) _ _ (c .before .before .before .first-refusal .ensures) (c .before .if1 .taken) (c .refused .ensures)
+    let at-if1 = c .before in
+    let at-first-refusal = at-if1 .before .before in
+    let at-start = at-first-refusal .before .before .before .before .before .before .before in
+    refused-call true (at-start .args .rows) (at-start .args .cols) (settingsOf (at-start .args .settings)) (work (at-start .args .b .now) (at-start .args .u .now) (at-start .args .v .now)) _ _ (at-first-refusal .first-refusal .ensures) (at-if1 .if1 .taken) (c .refused .ensures)
 
 decompose-requires : tie.Need-decompose-requires
 decompose-requires c κs =
@@ -28,4 +30,4 @@ returns-2 c =
     accepted-call true (at-start .args .rows) (at-start .args .cols) (settingsOf (at-start .args .settings)) (work (at-start .args .b .now) (at-start .args .u .now) (at-start .args .v .now)) _ _ _ _ (at-first-refusal .first-refusal .ensures) (at-if1 .if1 .left) (c .accepted .ensures) (at-decompose .decompose .ensures)
 
 pub full-svd-decomposition-spec : {M : Type 1} → statement M
-full-svd-decomposition-spec = tie.close (tie.spec (λ c κs. search needs) (λ c κs. search needs) (λ c. search needs) (λ c. search needs) (λ c. search needs) returns decompose-requires (λ c κs. search needs) (λ c. search needs) (λ c. search needs) (λ c. search needs) returns-2)
+full-svd-decomposition-spec = tie.close (tie.spec (λ c κs. search needs) (λ c κs. search needs) decompose-requires (λ c κs. search needs) (λ c. search needs) (λ c. search needs) (λ c. search needs) returns (λ c. c .before .before .before .before .before .before .before .before .decompose .kept .0) (λ c. c .before .before .before .before .before .before .before .before .decompose .kept .1 .0) (λ c. c .before .before .before .before .before .before .before .before .decompose .kept .1 .1 .0) returns-2)

@@ -10,8 +10,10 @@ use Rattle.svd.proofs.interface.svd_decomposition.Tie as tie
 
 returns : tie.Need-returns
 returns c =
-    let at-start = c .before .before .before .before .before .before .before .before in
-    refused-call false (at-start .args .rows) (at-start .args .cols) (settingsOf (at-start .args .settings)) (work (at-start .args .b .now) [] []) _ _ (c .before .before .before .first-refusal .ensures) (c .before .if1 .taken) (c .refused .ensures)
+    let at-if1 = c .before in
+    let at-first-refusal = at-if1 .before .before in
+    let at-start = at-first-refusal .before .before .before .before .before in
+    refused-call false (at-start .args .rows) (at-start .args .cols) (settingsOf (at-start .args .settings)) (work (at-start .args .b .now) [] []) _ _ (at-first-refusal .first-refusal .ensures) (at-if1 .if1 .taken) (c .refused .ensures)
 
 decompose-requires : tie.Need-decompose-requires
 decompose-requires c κs =
@@ -29,4 +31,4 @@ returns-2 c =
     plain-call (at-start .args .rows) (at-start .args .cols) (settingsOf (at-start .args .settings)) _ (at-start .args .b .now) _ _ _ (accepted-call false (at-start .args .rows) (at-start .args .cols) (settingsOf (at-start .args .settings)) (work (at-start .args .b .now) [] []) _ _ _ _ (at-first-refusal .first-refusal .ensures) (at-if1 .if1 .left) (c .accepted .ensures) (at-decompose .decompose .ensures))
 
 pub svd-decomposition-spec : {M : Type 1} → statement M
-svd-decomposition-spec = tie.close (tie.spec (λ c. search needs) (λ c. search needs) (λ c κs. search needs) (λ c κs. search needs) (λ c. search needs) returns (λ c. search needs) (λ c. search needs) decompose-requires (λ c κs. search needs) (λ c. search needs) returns-2)
+svd-decomposition-spec = tie.close (tie.spec (λ c. search needs) (λ c. search needs) (λ c κs. search needs) (λ c κs. search needs) (λ c. search needs) (λ c. search needs) decompose-requires (λ c κs. search needs) (λ c. search needs) returns (λ c. c .before .before .before .before .before .before .decompose .kept .0) returns-2)

@@ -3,17 +3,19 @@ use borrow.Author.Needs.{needs}
 use Prim.Native.Nat.{ℕ, _+_, _-_, _*_, _≤_}
 use mathlib.Core.Path.{_≡_, refl}
 use native.Mathlib.Omega.{arith}
+use Rattle.method.specs.Settings.{mostSize}
+use Rattle.svd.specs.Values.{mostStride}
 use Rattle.method.specs.Index.{few}
 use Rattle.method.specs.Positions.{cornerOf}
 use Rattle.svd.proofs.primitives.Corner.of_range.Statement.{statement}
 use Rattle.svd.proofs.primitives.Corner.of_range.Tie as tie
 
 -- the rows above the corner, and one more, have few entries
-module _ {range stride k : ℕ} (h : (range ≤ 48) × (stride ≤ 64)) (e : k ≡ range - 2) where
-  above : k * stride ≤ 3072
+module _ {range stride k : ℕ} (h : (range ≤ mostSize) × (stride ≤ mostStride)) (e : k ≡ range - 2) where
+  above : k * stride ≤ mostSize * mostStride
   above = few k stride (omega (arith, e)) (h .1)
 
-  above-next : (k + 1) * stride ≤ 3072
+  above-next : (k + 1) * stride ≤ mostSize * mostStride
   above-next = few (k + 1) stride (omega (arith, e)) (h .1)
 
 mul-tl : tie.Need-mul-tl
