@@ -8,19 +8,13 @@ use Rattle.method.specs.Outcome.{Outcome}
 use Rattle.app.specs.declared.Answer.{Answer}
 use Rattle.app.specs.declared.Choice.{Choice}
 
--- the word's number
-abbrev pub numbered : Report.Word → ℕ
-numbered Report.none = 0
-numbered Report.settled = 1
-numbered Report.stopped = 2
-
 -- the report
 abbrev pub answerOf : Report.Report → Answer
 answerOf r =
     record {
       number = r .refusal .number;
       place = r .refusal .place;
-      word = numbered (r .word);
+      word = Report.wordNumber (r .word);
       passes = r .tally .passes;
       sweeps = r .tally .sweeps;
       drops = r .tally .drops;

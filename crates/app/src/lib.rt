@@ -8,7 +8,6 @@ use factors::view::row_view;
 use svd::interface::full_svd_decomposition;
 use svd::interface::svd_decomposition;
 use svd::report::Report;
-use svd::report::Word;
 ghost use mathlib.Core.Path.{_≡_};
 ghost use mathlib.Core.List.{[]};
 ghost use lib.Ieee.{binary64};
@@ -19,8 +18,8 @@ ghost use Rattle.method.specs.Fill.{filled, fillOutcome};
 ghost use Rattle.method.specs.Outcome.{fullOutcome, plainOutcome};
 ghost use Rattle.float.specs.Root.{RootIs};
 ghost use Rattle.checks.specs.Values.{settingsOf};
-ghost use Rattle.svd.specs.Values.{reportOf, wordIn};
-ghost use Rattle.app.specs.Values.{numbered, answerOf, answered, told, chosen, ofChoice, layout};
+ghost use Rattle.svd.specs.Values.{reportOf};
+ghost use Rattle.app.specs.Values.{answerOf, answered, told, chosen, ofChoice, layout};
 ghost use Rattle.app.specs.Row.{partOf};
 
 // What a call answers. The word is 0 in a refusal, 1 where the table settled and 2 where the walk
@@ -53,22 +52,12 @@ pub struct Choice {
     pub floor: f64,
 }
 
-fn word_number(word: Word) -> u64
-    ensures { λ r. ⌜ r ≡ numbered (wordIn word) ⌝ }
-{
-    match word {
-        Word::None => 0,
-        Word::Settled => 1,
-        Word::Stopped => 2,
-    }
-}
-
 // The one place where the report is laid out flat.
 fn tell(report: Report) -> Answer
     ensures { λ r. ⌜ r ≡ answerOf (reportOf report) ⌝ }
 {
     let word = report.word;
-    let code = word_number(word);
+    let code = word.number();
     Answer {
         number: report.refusal.number as u64,
         place: report.refusal.place as u64,

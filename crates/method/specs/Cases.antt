@@ -20,7 +20,7 @@ use Rattle.method.specs.Chase.{turned, singular, negligible, steps, swep
 use Rattle.method.specs.Walk.{pass, run}
 use Rattle.method.specs.Checks.{firstOf, firstBad}
 use Rattle.method.specs.Fill.{identity}
-use Rattle.method.specs.Report.{Word, none, settled, stopped, Report}
+use Rattle.method.specs.Report.{wordNumber, Report}
 use Rattle.method.specs.Outcome.{accepted, outcome, plainOutcome, fullOutcome}
 use Rattle.method.specs.Settings.{Settings}
 use Rattle.method.specs.Defaults.{defaultTolerance, defaultAbsolute, defaultFloor}
@@ -45,11 +45,6 @@ rotated a b = ofRotation (rotationOf binary64 (ofBits binary64 a) (ofBits binary
 abbrev shifted : ℕ → ℕ → ℕ → ℕ → List ℕ
 shifted a b c d =
     bits (singular binary64 (ofBits binary64 a) (ofBits binary64 b) (ofBits binary64 c) (ofBits binary64 d) ∷ [])
-
-abbrev pub wordNumber : Word → ℕ
-wordNumber none = 0
-wordNumber settled = 1
-wordNumber stopped = 2
 
 -- number, word, passes, sweeps, drops and range left
 abbrev pub ofReport : Report → List ℕ

@@ -1,6 +1,7 @@
 -- What a call reports: the refusal, the word, and what the walk counted. A refused call reports the refusal alone; an
 -- accepted one, the state that its walk came to. Definitions only.
 pub mod Words
+use Prim.Native.Nat.{ℕ}
 use lib.Dec.{eqb}
 use Rattle.method.specs.Floats.{pick}
 use Rattle.method.specs.Work.{Work}
@@ -10,6 +11,12 @@ use Rattle.method.specs.Checks.{Refusal, refusal}
 -- `none` goes with a refusal
 pub data Word : Type 0 where
   none settled stopped : Word
+
+-- a word by its number
+abbrev pub wordNumber : Word → ℕ
+wordNumber none = 0
+wordNumber settled = 1
+wordNumber stopped = 2
 
 pub record Report : Type 0 where
   pub refusal : Refusal

@@ -3,6 +3,7 @@ use mathlib.Core.Path.{_≡_, refl, sym, ap, _∙_}
 use mathlib.Core.List.{List, []}
 use Prim.Native.Nat.{ℕ}
 use lib.Ieee.{Float, binary64}
+use Rattle.float.specs.Answers.{OneAnswer, equated-one}
 use Rattle.method.specs.Work.{work}
 use Rattle.method.specs.Checks as Checks
 use Rattle.method.specs.Walk as Walk
@@ -29,6 +30,10 @@ from-word : (w : Word) → fromWord (wordIn w) ≡ w
 from-word None = refl
 from-word Settled = refl
 from-word Stopped = refl
+
+-- a word's number
+pub word-number-one : (w : Word) → OneAnswer (λ (r : ℕ). r ≡ Report.wordNumber (wordIn w))
+word-number-one w = equated-one (Report.wordNumber (wordIn w))
 
 -- so two words that say the same are the same
 pub word-one : (w w′ : Word) → wordIn w ≡ wordIn w′ → w ≡ w′

@@ -8,6 +8,8 @@ use mathlib.Core.Bool.{Bool, true, false}
 use mathlib.Core.List.{List, []}
 use Prim.Native.Nat.{ℕ, _+_, _-_, _*_, _≤_, _<_}
 use lib.Ieee.{Float, binary64}
+use Rattle.float.specs.Root.{AnF64, RootIs, root-is}
+use Rattle.method.specs.Root.{squareRoot}
 use Rattle.method.specs.Work.{Work, work, packed}
 use Rattle.method.specs.Walk.{Rules, State, start, going, run}
 use Rattle.method.specs.Walk.Applied.{applied}
@@ -95,6 +97,8 @@ module _ (kept : Bool) (rows cols : ℕ) (s : Settings) (w₀ : Work) (r : Repor
         outcomeOf (reportOf r) w ≡
         shownBy (run (rules kept rows cols s w₀) n 0 (s .limit) (first kept rows cols s w₀))
 
+  -- (and of the root: `demand-2-root` below)
+
   -- ---- 3. the report is true
 
   pub record Demand3 : Type 0 where
@@ -163,6 +167,11 @@ module _ {kept : Bool} {rows cols : ℕ} {s : Settings} {w₀ : Work} {r : Repor
         stopped =
             (stopped-more kept rows cols s w₀ r w (a .promise) e, more-stopped kept rows cols s w₀ r w (a .promise) e);
       }
+
+-- The square root, of every f64 x and every answer r that the promise of `float::square_root` allows: where x is above
+-- zero and finite, r is nearest in whole numbers, and no other value is; elsewhere r is as `RootIs` says.
+pub demand-2-root : (x r : Float) → AnF64 x → r ≡ squareRoot binary64 x → RootIs x r
+demand-2-root = root-is
 
 -- with U and V kept or not, an accepted run has the same report and the same matrix
 pub kept-or-not :

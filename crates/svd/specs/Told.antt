@@ -23,7 +23,7 @@ use Rattle.checks.specs.Values.{settingsOf, refusalIn}
 use Rattle.svd.specs.declared.report.Report.{Report}
 use Rattle.svd.specs.declared.report.Word.{Word}
 use Rattle.svd.specs.declared.report.Word.the-variants.{None, Settled, Stopped}
-use Rattle.svd.specs.Values.{tallyOf, reportOf}
+use Rattle.svd.specs.Values.{tallyOf, wordIn, reportOf}
 use Rattle.svd.specs.Answers.{word-one}
 
 -- the report, and the lists, of an equation between two outcomes
@@ -35,9 +35,7 @@ listsOf e = ap (λ (o : Outcome). o .held) e
 
 -- by their numbers the words differ
 abbrev numbered : Word → ℕ
-numbered None = 0
-numbered Settled = 1
-numbered Stopped = 2
+numbered w = Report.wordNumber (wordIn w)
 
 module _ (kept : Bool) (rows cols : ℕ) (s : Settings) (w₀ : Work) (r : Report) (w : Work) where
   abbrev found : Checks.Refusal

@@ -3,9 +3,9 @@ ghost use mathlib.Core.Path.{_≡_};
 ghost use mathlib.Core.List.{[]};
 ghost use Rattle.method.specs.Work.{work};
 ghost use Rattle.method.specs.Walk.{stands};
-ghost use Rattle.method.specs.Report.{refused, reported};
+ghost use Rattle.method.specs.Report.{wordNumber, refused, reported};
 ghost use Rattle.checks.specs.Values.{refusalIn};
-ghost use Rattle.svd.specs.Values.{reportOf, walkOf};
+ghost use Rattle.svd.specs.Values.{reportOf, walkOf, wordIn};
 use crate::primitives::Walk;
 use crate::tally::Tally;
 use checks::refusal::Refusal;
@@ -16,6 +16,19 @@ pub enum Word {
     None,
     Settled,
     Stopped,
+}
+
+impl Word {
+    // The number by which the word is handed on and stored.
+    pub fn number(self) -> u64
+        ensures { λ r. ⌜ r ≡ wordNumber (wordIn self) ⌝ }
+    {
+        match self {
+            Word::None => 0,
+            Word::Settled => 1,
+            Word::Stopped => 2,
+        }
+    }
 }
 
 // The refusal, with number 0 where there is none; and of an accepted call the word and what the walk

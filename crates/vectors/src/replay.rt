@@ -12,7 +12,6 @@ use crate::stored::read_list;
 use svd::interface::full_svd_decomposition;
 use svd::interface::svd_decomposition;
 use svd::report::Report;
-use svd::report::Word;
 ghost use mathlib.Core.Path.{_≡_};
 ghost use lib.ListN.{length};
 
@@ -36,21 +35,12 @@ fn blank() -> [f64; 2401]
     [0.0; 2401]
 }
 
-// The number by which a word is stored.
-fn word_number(word: Word) -> u64 {
-    match word {
-        Word::None => 0,
-        Word::Settled => 1,
-        Word::Stopped => 2,
-    }
-}
-
 // Whether the report is the stored one.
 fn report_agrees(r: Report, answer: Answer) -> bool {
     let word = r.word;
     r.refusal.number as u64 == answer.number
         && r.refusal.place as u64 == answer.place
-        && word_number(word) == answer.word
+        && word.number() == answer.word
         && r.tally.passes as u64 == answer.passes
         && r.tally.sweeps as u64 == answer.sweeps
         && r.tally.drops as u64 == answer.drops

@@ -5,7 +5,7 @@ use Rattle.app.proofs.tell.Statement.{statement}
 use Rattle.app.proofs.tell.Tie as tie
 
 returns : tie.Need-returns
-returns c = rw (c .word-number .ensures) refl
+returns c = rw (c .number .ensures) refl
 
 pub tell-spec : {M : Type 1} → statement M
 tell-spec = tie.close (tie.spec (λ c κs. search needs) returns)

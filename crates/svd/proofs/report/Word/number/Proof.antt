@@ -1,7 +1,7 @@
--- `word_number` meets its contract: word by word. Assumes nothing.
+-- `Word::number` meets its contract: word by word. Assumes nothing.
 use borrow.Author.Needs.{needs}
-use Rattle.app.proofs.word_number.Statement.{statement}
-use Rattle.app.proofs.word_number.Tie as tie
+use Rattle.svd.proofs.report.Word.number.Statement.{statement}
+use Rattle.svd.proofs.report.Word.number.Tie as tie
 
 returns : tie.Need-returns
 returns c = search needs
@@ -12,7 +12,7 @@ returns-2 c = search needs
 returns-3 : tie.Need-returns-3
 returns-3 c = search needs
 
-pub word-number-spec : {M : Type 1} → statement M
-word-number-spec =
+pub number-spec : {M : Type 1} → statement M
+number-spec =
     tie.close
     (tie.spec (λ c. search needs) (λ c. search needs) (λ c. search needs) returns returns-2 returns-3)
