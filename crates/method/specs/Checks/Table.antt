@@ -15,7 +15,7 @@ use Rattle.method.specs.Floats.{plusZero}
 use Rattle.method.specs.Work.{Work}
 use Rattle.method.specs.Settings.{Settings, mostSize, mostLimit, mostCredit}
 use Rattle.method.specs.Checks.{Check, placed, Refusal, firstOf, firstBad, boundFit, floorFit, sizeChecks}
-use Rattle.method.specs.Checks.{lengthChecks, settingChecks, readingChecks, checks, refusalOf}
+use Rattle.method.specs.Checks.{refusal, lengthChecks, settingChecks, readingChecks, checks, refusalOf}
 use Rattle.method.specs.Checks.Tests.{less, same, holds, lacks, nor, either, both, notAll, some, few, equal}
 use Rattle.method.specs.Checks.First.{first-here, first-beyond, first-hit, first-miss, first-none, Meaning, means}
 use Rattle.method.specs.Checks.First.{Means, done, _⨾_, means-join, First, first-means, None, none-join}
@@ -204,7 +204,8 @@ module _ (kept : Bool) (rows cols : ℕ) (s : Settings) (w : Work) where
           (b : Bool) → ltb (firstBad (w .matrix)) (length (w .matrix)) ≡ b → Place (firstOf (readingChecks (w .matrix)))
       go true t =
           let i = ltb-true (firstBad (w .matrix)) (length (w .matrix)) t in
-          rw (first-hit reading [] t)
+          let e : firstOf (readingChecks (w .matrix)) ≡ refusal 8 (firstBad (w .matrix)) = first-hit reading [] t in
+          rw e
           record {
             eight =
                 λ e.
@@ -216,7 +217,8 @@ module _ (kept : Bool) (rows cols : ℕ) (s : Settings) (w : Work) where
             other = λ h. absurd (h refl);
           }
       go false t =
-          rw (first-miss reading [] t, first-none) record { eight = λ e. absurd (omega (arith, e)); other = λ h. refl }
+          let e : firstOf (readingChecks (w .matrix)) ≡ firstOf [] = first-miss reading [] t in
+          rw (e, first-none) record { eight = λ q. absurd (omega (arith, q)); other = λ h. refl }
 
   pub place : Place (refusalOf kept rows cols s w)
   place = go (eqb (firstOf (before kept rows cols s w) .number) 0) refl
