@@ -3,6 +3,7 @@
 
 pub mod cases;
 pub mod kinds;
+pub mod limits;
 mod record;
 pub mod refusals;
 pub mod run;
