@@ -1,10 +1,13 @@
 #!/usr/bin/env python3
-"""Writes crates/roots/stdin: bit patterns of doubles, each with the pattern of its square root.
+"""Writes crates/roots/stdin, calls of the float helpers with their answers as crates/roots/src/row.rt says, and
+crates/roots/stdout, what the program `roots` is to print of them.
 
     tools/roots.py
 
-The answers are the machine's own square roots, by math.sqrt. The patterns are always the same: no clock and no
-library's random numbers go into them. A NaN is written 7FF8000000000000, whatever its pattern was.
+First the values that the rules name, for each helper, then drawn square roots, whose answers are the machine's own,
+by math.sqrt, and last rows that are wrong on purpose, each a right one with a change in one place. The rows are always
+the same: no clock and no library's random numbers go into them. A NaN is written 7FF8000000000000, whatever its
+pattern was.
 """
 import math
 import struct
@@ -15,6 +18,22 @@ LAST = 0x7FEF_FFFF_FFFF_FFFF
 INFINITY = 0x7FF0_0000_0000_0000
 SIGN = 1 << 63
 NAN = 0x7FF8_0000_0000_0000
+ZERO, LEAST, ONE, TWO = 0, 1, 0x3FF0_0000_0000_0000, 0x4000_0000_0000_0000
+NAMED = {
+    "m": [(ZERO, ZERO), (SIGN, ZERO), (ONE, ONE), (SIGN + ONE, ONE), (SIGN + LEAST, LEAST), (INFINITY, INFINITY),
+          (SIGN + INFINITY, INFINITY), (NAN, NAN)],
+    "s": [(ZERO, ONE), (SIGN, SIGN + ONE), (LEAST, ONE), (SIGN + LEAST, SIGN + ONE), (TWO, ONE), (INFINITY, ONE),
+          (SIGN + INFINITY, SIGN + ONE), (NAN, NAN)],
+    "<": [(ONE, TWO, ONE), (TWO, ONE, ONE), (SIGN + ONE, LEAST, SIGN + ONE), (SIGN + INFINITY, ONE, SIGN + INFINITY),
+          (INFINITY, LAST, LAST), (NAN, ONE, ONE), (ONE, NAN, ONE), (NAN, INFINITY, INFINITY), (NAN, NAN, NAN),
+          (ZERO, SIGN, ZERO), (SIGN, ZERO, SIGN)],
+    ">": [(ONE, TWO, TWO), (TWO, ONE, TWO), (SIGN + ONE, LEAST, LEAST), (SIGN + INFINITY, ONE, ONE),
+          (INFINITY, LAST, INFINITY), (NAN, ONE, ONE), (ONE, NAN, ONE), (NAN, SIGN + INFINITY, SIGN + INFINITY),
+          (NAN, NAN, NAN), (ZERO, SIGN, ZERO), (SIGN, ZERO, SIGN)],
+    "r": [(SIGN, SIGN), (LEAST, 0x1E60_0000_0000_0000), (TWO, 0x3FF6_A09E_667F_3BCD), (ONE + 1, ONE),
+          (LAST, 0x5FEF_FFFF_FFFF_FFFF), (ZERO, ZERO), (SIGN + LEAST, NAN), (SIGN + ONE, NAN), (SIGN + INFINITY, NAN),
+          (INFINITY, INFINITY), (NAN, NAN)],
+}
 state = 20
 
 
@@ -103,10 +122,41 @@ def others():
         yield draw(INFINITY)
 
 
-lines = []
+def row(helper, x, y, answer):
+    return f"{helper} {x:016X} {y:016X} = {answer:016X}\n"
+
+
+def wrong_rows():
+    """Each digit of an answer wrong once, for each helper; the helper; a number for a NaN and the other way round; each
+    digit of x and of y; and each byte that gives a row its form. No NaN stands for another: all are alike."""
+    for helper, other, x, y, answer in (("m", "s", SIGN + TWO, ZERO, TWO), ("s", "m", SIGN + TWO, ZERO, SIGN + ONE),
+                                        ("<", ">", ONE, TWO, ONE), (">", "<", ONE, TWO, TWO),
+                                        ("r", "m", TWO, ZERO, 0x3FF6_A09E_667F_3BCD)):
+        for place in range(16):
+            yield row(helper, x, y, answer ^ 1 << 4 * place)
+        yield row(other, x, y, answer)
+    yield row("r", ONE, ZERO, NAN)
+    yield row("r", NAN, ZERO, INFINITY)
+    for place in range(16):
+        yield row("<", ONE ^ 1 << 4 * place, TWO, ONE)
+        yield row(">", ONE, TWO ^ 1 << 4 * place, TWO)
+    right = row(">", 0xA, 0xB, 0xB)
+    for place in (17, 34, 53):
+        yield right[:place] + right[place].lower() + right[place + 1:]
+    for place in (0, 1, 18, 35, 37, 54):
+        yield right[:place] + "x" + right[place + 1:]
+
+
+lines = [row(helper, *(given if len(given) == 3 else (given[0], ZERO, given[1])))
+         for helper, many in NAMED.items() for given in many]
+print(f"{len(lines)} named")
 for kind in (subnormals, powers_of_two, squares, midpoints, others):
     found = list(kind())
     print(f"{len(found)} {kind.__name__}")
-    lines += [f"{b:016X} {answer(b):016X}\n" for b in found]
-Path(__file__).parent.parent.joinpath("crates/roots/stdin").write_text("".join(lines))
-print(f"{len(lines)} lines")
+    lines += [row("r", b, ZERO, answer(b)) for b in found]
+wrong = [line[:36] + "!" + line[37:] for line in wrong_rows()]
+print(f"{len(wrong)} wrong on purpose")
+folder = Path(__file__).parent.parent.joinpath("crates/roots")
+folder.joinpath("stdin").write_text("".join(lines + wrong))
+many = len(wrong)
+folder.joinpath("stdout").write_text(f"{len(lines)} rows compared, 0 differ; {many} wrong on purpose, {many} found\n")

@@ -7,6 +7,7 @@
 pub mod answer;
 pub mod cases;
 pub mod kinds;
+pub mod limits;
 mod record;
 pub mod refusals;
 pub mod run;

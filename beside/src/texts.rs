@@ -294,22 +294,86 @@ pub fn all() -> Vec<Vec<u8>> {
     kept
 }
 
-/// A text as it is stored: its size and its answer's, six digits and an LF each, then the text and
-/// the answer.
-fn store(out: &mut Vec<u8>, text: &[u8]) {
-    let answer = split(text);
-    out.extend(format!("{:06}\n{:06}\n", text.len(), answer.len()).bytes());
+/// A text with its answer as it is stored: `=`, or `!` where it is wrong on purpose, the sizes of both in six digits, a
+/// space apart, an LF, and then both.
+fn store(out: &mut Vec<u8>, mark: char, text: &[u8], answer: &[u8]) {
+    out.extend(format!("{mark} {:06} {:06}\n", text.len(), answer.len()).bytes());
     out.extend(text);
-    out.extend(answer.bytes());
+    out.extend(answer);
+}
+
+/// Texts with answers that are wrong on purpose, each a right one with one change: each byte of an answer, the last of a
+/// long one, an answer with a byte less or more at either end or with none, each byte of a text that counts, and the
+/// place where the text ends and the answer begins.
+fn wrong() -> Vec<(Vec<u8>, Vec<u8>)> {
+    let text = EXAMPLE.as_bytes().to_vec();
+    let answer = split(&text).into_bytes();
+    let changed = |bytes: &[u8], place: usize| {
+        let mut bytes = bytes.to_vec();
+        bytes[place] ^= 1;
+        bytes
+    };
+    let mut rows: Vec<(Vec<u8>, Vec<u8>)> = (0..answer.len())
+        .map(|place| (text.clone(), changed(&answer, place)))
+        .collect();
+    let long = written(&[drawn(&mut Draw(0x1096), 300, 2, 48, 2)]);
+    let end = split(&long).into_bytes();
+    rows.push((long, changed(&end, end.len() - 1)));
+    let last = answer.len() - 1;
+    for other in [
+        answer[1..].to_vec(),
+        answer[..last].to_vec(),
+        [b"7", &answer[..]].concat(),
+        [&answer[..], b"\n"].concat(),
+        Vec::new(),
+    ] {
+        rows.push((text.clone(), other));
+    }
+    let texts = (0..text.len()).map(|place| changed(&text, place));
+    rows.extend(texts.map(|text| (text, answer.clone())));
+    let (most, byte) = text.split_at(text.len() - 1);
+    rows.push((most.to_vec(), [byte, &answer[..]].concat()));
+    rows.push(([&text[..], &answer[..1]].concat(), answer[1..].to_vec()));
+    rows.retain(|(text, answer)| split(text).as_bytes() != answer);
+    rows
+}
+
+/// A right row whose form is wrong on purpose, in each byte between its sizes, and at the end one that is cut off.
+fn formless() -> Vec<Vec<u8>> {
+    let mut row = Vec::new();
+    store(
+        &mut row,
+        '!',
+        EXAMPLE.as_bytes(),
+        split(EXAMPLE.as_bytes()).as_bytes(),
+    );
+    let mut rows: Vec<Vec<u8>> = [1, 8, 15]
+        .into_iter()
+        .map(|place| [&row[..place], b"x", &row[place + 1..]].concat())
+        .collect();
+    row.pop();
+    rows.push(row);
+    rows
 }
 
 /// The list as it is stored.
 pub fn stored() -> Vec<u8> {
     let mut out = Vec::new();
     for text in all() {
-        store(&mut out, &text);
+        store(&mut out, '=', &text, split(&text).as_bytes());
     }
+    for (text, answer) in wrong() {
+        store(&mut out, '!', &text, &answer);
+    }
+    out.extend(formless().concat());
     out
+}
+
+/// The line that the program prints of the list where all is as it should be.
+pub fn summary() -> String {
+    let right = all().len();
+    let wrong = wrong().len() + formless().len();
+    format!("{right} texts compared, 0 differ; {wrong} wrong on purpose, {wrong} found\n")
 }
 
 /// A well-formed text with surveys of every kind; mostly small ones.
@@ -397,7 +461,8 @@ pub fn lot(seed: u64, first: u64, end: u64, most: usize) -> (Vec<u8>, u64) {
     let mut out = Vec::new();
     for number in first..end {
         let before = out.len();
-        store(&mut out, &drawn_text(seed, number));
+        let text = drawn_text(seed, number);
+        store(&mut out, '=', &text, split(&text).as_bytes());
         if out.len() > most && before > 0 {
             out.truncate(before);
             return (out, number - first);

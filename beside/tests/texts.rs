@@ -1,7 +1,16 @@
 //! The list of survey texts is what it is meant to be, and the answers keep the rules.
 
 use beside::survey::split;
-use beside::texts::{all, stored};
+use beside::texts::{all, stored, summary};
+use std::fs;
+
+#[test]
+fn the_stored_file() {
+    let folder = concat!(env!("CARGO_MANIFEST_DIR"), "/../crates/texts/");
+    let file = |name: &str| fs::read(format!("{folder}{name}")).unwrap();
+    assert!(stored() == file("stdin"), "write crates/texts/stdin");
+    assert_eq!(summary().as_bytes(), file("stdout"));
+}
 
 #[test]
 fn the_example() {
@@ -48,5 +57,4 @@ fn the_list() {
     assert!(kinds(|answer| answer.starts_with("refused 9 ")) >= 100);
     assert!(kinds(|answer| answer.contains("\nrefused 9 ")) >= 100);
     assert!(kinds(|answer| !answer.contains("refused")) >= 50);
-    assert_eq!(stored(), stored());
 }

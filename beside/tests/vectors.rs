@@ -2,7 +2,9 @@
 //! of a reply is seen.
 
 use beside::run::{Reply, Run, Start};
-use beside::vectors::{LONGEST, reply, stored, summary, words, written};
+use beside::vectors::{
+    LONGEST, entry, reply, stored, stored_summary, words, write, write_stored, wrong,
+};
 use beside::{Report, Settings, cases, refusals};
 use std::fs;
 
@@ -13,12 +15,10 @@ fn file(name: &str) -> Vec<u8> {
 
 #[test]
 fn the_stored_file() {
-    let runs = stored();
-    assert!(
-        written(&runs) == file("stdin"),
-        "write crates/vectors/stdin"
-    );
-    assert_eq!(summary(runs.iter().cloned()).as_bytes(), file("stdout"));
+    let mut bytes = Vec::new();
+    write_stored(&mut bytes).unwrap();
+    assert!(bytes == file("stdin"), "write crates/vectors/stdin");
+    assert_eq!(stored_summary().as_bytes(), file("stdout"));
 }
 
 #[test]
@@ -34,13 +34,15 @@ fn the_words_of_a_run() {
     let tolerance = 0x3DDB_7CDF_D9D7_BDBB;
     let absolute = 0x3D71_9799_812D_EA11;
     let floor = 1 << 52;
-    let head = [2, 2, 100, 50, tolerance, absolute, floor, 1, 0, 4, 4, 4];
+    let head = [2, 2, 100, 50, tolerance, absolute, floor, 1, 0, 4, 4, 4, 0];
     let report = [0, 0, 1, 1, 0, 1, 1];
     let mut right = [&head[..], &[two, 0, 0, one], &report].concat();
     right.extend([minus_two, 0, 0, one, minus_one, 0, 0, one, one, 0, 0, one]);
-    assert_eq!(words(&run, &reply(&run)), right);
+    assert_eq!(words(&run, &reply(&run), 0), right);
     let bytes: Vec<u8> = right.into_iter().flat_map(u64::to_le_bytes).collect();
-    assert_eq!(written(&[run]), bytes);
+    let mut out = Vec::new();
+    write([run].into_iter(), &mut out).unwrap();
+    assert_eq!(out, bytes);
 }
 
 #[test]
@@ -53,12 +55,12 @@ fn the_words_of_a_refusal() {
         matrix: vec![f64::INFINITY],
         start: Start::Given(vec![], vec![1.0, 2.0]),
     };
-    let words = words(&run, &reply(&run));
+    let words = words(&run, &reply(&run), 0);
     let (one, two) = (1f64.to_bits(), 2f64.to_bits());
     assert_eq!(words[..2], [1 << 63, 2]);
-    assert_eq!(words[7..12], [1, 1, 1, 0, 2]);
-    assert_eq!(words[12..15], [0x7FF0_0000_0000_0000, one, two]);
-    assert_eq!(words[15..], [2, 0, 0, 0, 0, 0, 0]);
+    assert_eq!(words[7..13], [1, 1, 1, 0, 2, 0]);
+    assert_eq!(words[13..16], [0x7FF0_0000_0000_0000, one, two]);
+    assert_eq!(words[16..], [2, 0, 0, 0, 0, 0, 0]);
 }
 
 #[test]
@@ -67,41 +69,38 @@ fn each_run_ends_where_the_next_begins() {
         .chunks_exact(8)
         .map(|bytes| u64::from_le_bytes(bytes.try_into().unwrap()))
         .collect();
-    let (mut at, mut runs) = (0, 0);
+    let (mut at, mut runs, mut marked) = (0, 0, 0);
     while at < words.len() {
-        let head = &words[at..at + 12];
-        let [kept, start, matrix, u, v] = head[7..] else {
+        let head = &words[at..at + 13];
+        let [kept, start, matrix, u, v, differ] = head[7..] else {
             unreachable!()
         };
+        assert!(differ <= 1 + kept);
         assert!(kept <= 1 && start <= kept);
         assert!([matrix, u, v].iter().all(|&n| n <= LONGEST as u64));
         assert!(kept == 1 || (u, v) == (0, 0));
-        at += 12 + (matrix + start * (u + v)) as usize;
+        at += 13 + (matrix + start * (u + v)) as usize;
         let number = words[at];
-        assert!(number <= 8);
+        assert!(differ > 0 || number <= 8);
         at += Report::NAMES.len();
         if number == 0 {
             at += (matrix + u + v) as usize;
         }
-        runs += 1;
-    }
-    assert_eq!((at, runs), (words.len(), stored().len()));
-}
-
-/// An entry of matrix, U and V, in a row.
-fn entry(reply: &mut Reply, mut at: usize) -> &mut f64 {
-    for list in [&mut reply.matrix, &mut reply.u, &mut reply.v] {
-        if at < list.len() {
-            return &mut list[at];
+        if differ == 0 {
+            assert_eq!(marked, 0, "the right ones come first");
+            runs += 1;
+        } else {
+            marked += 1;
         }
-        at -= list.len();
     }
-    unreachable!("no such entry")
+    // The last run lacks a byte.
+    assert_eq!(at, words.len() + 1);
+    assert_eq!((runs, marked), (stored().len(), wrong().len() + 1));
 }
 
 /// Another value of one bit of an entry.
 fn flip(reply: &mut Reply, at: usize, bit: usize) {
-    let entry = entry(reply, at);
+    let entry = entry(reply, at).unwrap();
     *entry = f64::from_bits(entry.to_bits() ^ 1 << bit);
 }
 
@@ -109,11 +108,11 @@ fn flip(reply: &mut Reply, at: usize, bit: usize) {
 fn a_bit_of_a_reply_is_seen() {
     for run in stored().iter().filter(|run| run.matrix.len() <= 16) {
         let right = reply(run);
-        let first = words(run, &right);
+        let first = words(run, &right, 0);
         let seen = |change: &dyn Fn(&mut Reply), place: usize| {
             let mut wrong = right.clone();
             change(&mut wrong);
-            let other = words(run, &wrong);
+            let other = words(run, &wrong, 0);
             assert_eq!(other.len(), first.len());
             let differ = (0..first.len()).filter(|&at| other[at] != first[at]);
             assert_eq!(differ.collect::<Vec<usize>>(), [place]);
@@ -140,7 +139,7 @@ fn nans_are_alike() {
     let with = |bits: u64| {
         let mut reply = reply(&run);
         reply.matrix[0] = f64::from_bits(bits);
-        words(&run, &reply)
+        words(&run, &reply, 0)
     };
     assert_eq!(with(0x7FF8_0000_0000_0000), with(0xFFF0_0000_0000_0001));
     assert_ne!(with(0x7FF8_0000_0000_0000), with(0x7FF0_0000_0000_0000));

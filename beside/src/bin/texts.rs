@@ -1,7 +1,7 @@
 //! Prints the fixed list of survey texts with their answers, as the program `texts` replays them;
-//! `texts split` answers instead the survey text of standard input; `texts lot SEED FIRST END` prints
-//! drawn texts with their answers, as many as the program has room for, and how many on standard
-//! error.
+//! `texts summary` prints instead the line that it is to print of them, and `texts split` the answer
+//! to the survey text of standard input; `texts lot SEED FIRST END` prints drawn texts with their
+//! answers, as many as the program has room for, and on standard error how many.
 
 use std::io::{self, Read, Write};
 
@@ -13,6 +13,9 @@ fn main() -> io::Result<()> {
         return out.write_all(beside::survey::split(&text).as_bytes());
     }
     let words: Vec<String> = std::env::args().skip(1).collect();
+    if words.first().map(String::as_str) == Some("summary") {
+        return out.write_all(beside::texts::summary().as_bytes());
+    }
     if words.first().map(String::as_str) == Some("lot") {
         let number = |at: usize| -> u64 { words[at].parse().expect("a number") };
         let (lot, many) = beside::texts::lot(number(1), number(2), number(3), 490_000);

@@ -2,7 +2,7 @@
 //! summary` prints instead the line that it is to print of them. `vectors lot SEED MANY` and
 //! `vectors lot-summary SEED MANY` do the same for the first drawn runs of a seed.
 
-use beside::vectors::{lot, stored, summary, write};
+use beside::vectors::{lot, stored_summary, summary, write, write_stored};
 use std::io::{self, BufWriter, Write};
 
 fn main() -> io::Result<()> {
@@ -11,11 +11,11 @@ fn main() -> io::Result<()> {
     let words: Vec<&str> = words.iter().map(String::as_str).collect();
     let number = |word: &str| -> u64 { word.parse().expect("a number") };
     match words[..] {
-        [] => write(stored().into_iter(), &mut out)?,
-        ["summary"] => out.write_all(summary(stored().into_iter()).as_bytes())?,
+        [] => write_stored(&mut out)?,
+        ["summary"] => out.write_all(stored_summary().as_bytes())?,
         ["lot", seed, many] => write(lot(number(seed), number(many)), &mut out)?,
         ["lot-summary", seed, many] => {
-            out.write_all(summary(lot(number(seed), number(many))).as_bytes())?;
+            out.write_all(summary(lot(number(seed), number(many)), 0).as_bytes())?;
         }
         _ => {
             return Err(io::Error::other(

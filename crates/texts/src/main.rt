@@ -1,10 +1,13 @@
 // Replays the survey texts of its standard input, made by beside's program `texts`, and compares the
-// whole of what is printed of each with the stored answer. Before each text stand its size and its
-// answer's, six digits and an LF each, and behind it the answer. Prints the number of each text that
-// differs, and how many were compared.
+// whole of what is printed of each with the stored answer. A text and its answer are stored behind a
+// line such as `= 000042 000052`, which has the sizes of both; `!` stands in place of `=` where they
+// are wrong on purpose. Prints the number of each right text that differs and of each wrong one that
+// was not found, and how many were compared.
 ghost use mathlib.Core.Path.{_≡_};
 ghost use Prim.Native.Nat.{_+_, _≤_, _<_};
 ghost use lib.ListN.{length};
+use check::same;
+use score::Score;
 use text::numerals::Number;
 use text::numerals::value;
 
@@ -22,34 +25,33 @@ fn blank() -> [u8; 314000]
     [0; 314000]
 }
 
-// The number that six digits and an LF from `at` on say; 999,999 where they are none.
+// The number that six digits from `at` on say; 999,999 where they are none.
 fn number(list: &[u8], at: usize) -> usize
-    requires { ⌜ at + 7 ≤ length (now list) ⌝ }
+    requires { ⌜ at + 6 ≤ length (now list) ⌝ }
     ensures { λ r. ⌜ r < 1000000 ⌝ }
 {
     let end = at + 6;
-    if list[end] != 10 {
-        return 999999;
-    }
     match value(&list[at..end], 10) {
         Number::Is(n) => n as usize,
         Number::Not => 999999,
     }
 }
 
-// Whether a and b are the same bytes.
-fn same(a: &[u8], b: &[u8]) -> bool {
-    if a.len() != b.len() {
-        return false;
+// Where the answer of the text whose line stands at `at` ends; the list's end where it would end
+// beyond that.
+fn end_of(list: &[u8], at: usize) -> usize
+    requires { ⌜ at < length (now list) ⌝ }
+    ensures { λ r. ⌜ (at < r) × (r ≤ length (now (list .entry))) ⌝ }
+{
+    if list.len() - at < 16 {
+        return list.len();
     }
-    let mut i = 0;
-    while i < a.len() {
-        if a[i] != b[i] {
-            return false;
-        }
-        i += 1;
+    let n = number(list, at + 2);
+    let k = number(list, at + 9);
+    if list.len() - at - 16 < n + k {
+        return list.len();
     }
-    true
+    at + 16 + n + k
 }
 
 // Whether what is printed of the text is the answer.
@@ -59,70 +61,63 @@ fn agrees(text: &[u8], answer: &[u8]) -> bool {
     same(&out[..n], answer)
 }
 
-// Where the answer of the text whose sizes stand at `at` ends; the list's end where it would end
-// beyond that.
-fn end_of(list: &[u8], at: usize) -> usize
-    requires { ⌜ at < length (now list) ⌝ }
-    ensures { λ r. ⌜ (at < r) × (r ≤ length (now (list .entry))) ⌝ }
-{
-    if list.len() - at < 14 {
-        return list.len();
-    }
-    let n = number(list, at);
-    let k = number(list, at + 7);
-    if list.len() - at - 14 < n + k {
-        return list.len();
-    }
-    at + 14 + n + k
-}
-
 // Whether the piece is the sizes, a text and its answer, and they agree.
 fn piece_agrees(piece: &[u8]) -> bool {
-    if piece.len() < 14 {
+    if piece.len() < 16 {
         return false;
     }
-    let n = 14 + number(piece, 0);
-    let k = n + number(piece, 7);
+    if piece[1] != b' ' || piece[8] != b' ' || piece[15] != b'\n' {
+        return false;
+    }
+    let n = 16 + number(piece, 2);
+    let k = n + number(piece, 9);
     if k != piece.len() {
         return false;
     }
-    agrees(&piece[14..n], &piece[n..])
+    agrees(&piece[16..n], &piece[n..])
 }
 
-// Prints that the text of this number differs.
-fn differs(number: u64) {
+// A number and the words behind it.
+fn print(number: u64, words: &[u8]) {
     io::print_decimal(1, number);
-    io::write_all(1, b" differs\n");
+    io::write_all(1, words);
 }
 
-// A line such as "900 texts compared, 0 differ".
-fn report(compared: u64, differ: u64) {
-    io::print_decimal(1, compared);
-    io::write_all(1, b" texts compared, ");
-    io::print_decimal(1, differ);
-    io::write_all(1, b" differ\n");
+// Compares a piece and counts it. Prints its number, among the right or the wrong ones, where it is
+// not as told.
+fn step(piece: &[u8], score: Score) -> Score
+    requires { ⌜ 0 < length (now piece) ⌝ }
+{
+    let wrong = piece[0] == b'!';
+    let same = piece_agrees(piece);
+    let next = score.counted(wrong, same);
+    if wrong && same {
+        print(next.wrong, b" is wrong on purpose and was not found\n");
+    }
+    if !wrong && !same {
+        print(next.right, b" differs\n");
+    }
+    next
 }
 
-// Compares every text of the list; a rest that is no text with its answer counts as one that
-// differs.
-fn compare(list: &[u8]) {
-    let mut compared: u64 = 0;
-    let mut differ: u64 = 0;
+// Compares every text of the list; a rest that is no text with its answer counts as one.
+fn compare(list: &[u8]) -> Score {
+    let mut score = Score::new();
     let mut at = 0;
     while at < list.len() {
         let end = end_of(list, at);
-        compared += 1;
-        if !piece_agrees(&list[at..end]) {
-            differs(compared);
-            differ += 1;
-        }
+        score = step(&list[at..end], score);
         at = end;
     }
-    report(compared, differ);
+    score
 }
 
 fn main() {
     let mut list = whole();
     let n = io::read_full(0, &mut list);
-    compare(&list[..n]);
+    let score = compare(&list[..n]);
+    print(score.right, b" texts compared, ");
+    print(score.differ, b" differ; ");
+    print(score.wrong, b" wrong on purpose, ");
+    print(score.found, b" found\n");
 }

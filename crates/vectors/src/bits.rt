@@ -3,24 +3,25 @@ ghost use mathlib.Core.Path.{_≡_};
 ghost use Prim.Native.Nat.{_+_, _<_, _≤_};
 ghost use lib.ListN.{length};
 
-// A byte as a wider number.
-fn wide(b: u8) -> u64
-    ensures { λ r. ⌜ r < 256 ⌝ }
+// A byte as a wider number, moved up by so many bits.
+fn at_bit(b: u8, bit: u32) -> u64
+    requires { ⌜ bit < 64 ⌝ }
 {
-    b as u64
+    (b as u64) << bit
 }
 
 // The word from `at` on.
 pub(crate) fn word(bytes: &[u8], at: usize) -> u64
     requires { ⌜ at + 8 ≤ length (now bytes) ⌝ }
 {
-    let mut w: u64 = 0;
-    let mut i = 8;
-    while i > 0 {
-        i -= 1;
-        w = (w << 8) + wide(bytes[at + i]);
-    }
-    w
+    at_bit(bytes[at], 0)
+        | at_bit(bytes[at + 1], 8)
+        | at_bit(bytes[at + 2], 16)
+        | at_bit(bytes[at + 3], 24)
+        | at_bit(bytes[at + 4], 32)
+        | at_bit(bytes[at + 5], 40)
+        | at_bit(bytes[at + 6], 48)
+        | at_bit(bytes[at + 7], 56)
 }
 
 // Fills the list with the doubles of the bytes; whether there are as many of them.

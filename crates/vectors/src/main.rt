@@ -1,7 +1,8 @@
 // Replays the runs of its standard input, made by beside's program `vectors` from the answers of the
 // original Rust, and compares the whole of what the calls answer and leave, bit for bit, all NaNs
-// alike. `stored` says how a run is stored. Prints the number of each run that differs, and a
-// summary; a rest that is no run counts as one that differs.
+// alike. `stored` says how a run is stored. Prints the number of each run that differs and of each
+// that is wrong on purpose and was not found, and a summary; a rest that is no run counts as one that
+// differs.
 mod bits;
 mod replay;
 mod stored;
@@ -15,7 +16,7 @@ use crate::totals::Totals;
 fn step(totals: Totals) -> Totals {
     match next_run() {
         Seen::End => totals.ended(),
-        Seen::Malformed => totals.malformed(),
+        Seen::Malformed(wrong) => totals.malformed(wrong),
         Seen::Run(made) => totals.counted(made),
     }
 }

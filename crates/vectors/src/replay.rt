@@ -1,31 +1,39 @@
 // One run: the lists are read, the calls made, and what they answer and leave is compared.
 use crate::bits::copy;
 use crate::bits::same;
-use crate::stored::Answer;
 use crate::stored::Found;
 use crate::stored::Head;
-use crate::stored::Told;
 use crate::stored::begin;
+use crate::stored::number_in;
 use crate::stored::read_answer;
 use crate::stored::read_head;
 use crate::stored::read_list;
+use crate::stored::report_agrees;
 use svd::interface::full_svd_decomposition;
 use svd::interface::svd_decomposition;
 use svd::report::Report;
 ghost use mathlib.Core.Path.{_≡_};
 ghost use lib.ListN.{length};
 
-// What a run came to: whether all is as stored, and what the library answered.
+// What a run came to: whether it is wrong on purpose, whether it agrees, and what the library
+// answered. A wrong run agrees where not as many of its calls differ as are to.
 pub(crate) struct Made {
+    pub(crate) wrong: bool,
     pub(crate) agrees: bool,
     pub(crate) report: Report,
 }
 
-// What was seen where a run should be.
+// What was seen where a run should be; what is malformed may be so on purpose.
 pub(crate) enum Seen {
     End,
-    Malformed,
+    Malformed(bool),
     Run(Made),
+}
+
+// What a call came to: whether all is as stored, and what it answered.
+struct Call {
+    agrees: bool,
+    report: Report,
 }
 
 // Room for the longest list.
@@ -35,56 +43,50 @@ fn blank() -> [f64; 2401]
     [0.0; 2401]
 }
 
-// Whether the report is the stored one.
-fn report_agrees(r: Report, answer: Answer) -> bool {
-    let word = r.word;
-    r.refusal.number as u64 == answer.number
-        && r.refusal.place as u64 == answer.place
-        && word.number() == answer.word
-        && r.tally.passes as u64 == answer.passes
-        && r.tally.sweeps as u64 == answer.sweeps
-        && r.tally.drops as u64 == answer.drops
-        && r.tally.range as u64 == answer.range
+// How many of a run's calls differ.
+fn differing(first: bool, second: bool) -> u64 {
+    if first && second {
+        return 0;
+    }
+    if first || second {
+        return 1;
+    }
+    2
+}
+
+// What a run came to of whose calls so many differ.
+fn judged(head: Head, differ: u64, report: Report) -> Made {
+    let wrong = head.differ > 0;
+    let as_told = differ == head.differ;
+    Made {
+        wrong,
+        agrees: as_told != wrong,
+        report,
+    }
 }
 
 // The plain call on b, which is to leave what b2 holds.
-fn plain(b: &mut [f64], b2: &[f64], head: Head, answer: Answer) -> Made {
+fn plain(b: &mut [f64], b2: &[f64], head: Head, answer: &[u8; 56]) -> Call {
     let settings = head.settings;
     let report = svd_decomposition(b, head.rows, head.cols, settings);
     let agrees = report_agrees(report, answer) && same(b, b2);
-    Made { agrees, report }
-}
-
-// The accumulating call on b, u and v, which is to leave what b2, u2 and v2 hold.
-fn full(
-    b: &mut [f64],
-    u: &mut [f64],
-    v: &mut [f64],
-    b2: &[f64],
-    u2: &[f64],
-    v2: &[f64],
-    head: Head,
-    answer: Answer,
-) -> Made {
-    let settings = head.settings;
-    let report = full_svd_decomposition(b, u, v, head.rows, head.cols, settings);
-    let agrees = report_agrees(report, answer) && same(b, b2) && same(u, u2) && same(v, v2);
-    Made { agrees, report }
+    Call { agrees, report }
 }
 
 // Whether the plain call on a copy of b, in c, gives the stored report and leaves what b2 holds.
-fn copy_agrees(b: &[f64], c: &mut [f64], b2: &[f64], head: Head, answer: Answer) -> bool
+fn copy_agrees(b: &[f64], c: &mut [f64], b2: &[f64], head: Head, answer: &[u8; 56]) -> bool
     requires { ⌜ length (now b) ≡ length (now c) ⌝ }
 {
     copy(b, c);
-    let made = plain(c, b2, head, answer);
-    made.agrees
+    let call = plain(c, b2, head, answer);
+    call.agrees
 }
 
 // Whether the plain call gives the stored report and matrix too. It has no numbers 4 and 5: where
 // one of them is stored, it is not made.
-fn plain_agrees(b: &[f64], b2: &[f64], head: Head, answer: Answer) -> bool {
-    if answer.number == 4 || answer.number == 5 {
+fn plain_agrees(b: &[f64], b2: &[f64], head: Head, answer: &[u8; 56]) -> bool {
+    let number = number_in(answer);
+    if number == 4 || number == 5 {
         return true;
     }
     let mut c = blank();
@@ -95,7 +97,8 @@ fn plain_agrees(b: &[f64], b2: &[f64], head: Head, answer: Answer) -> bool {
     copy_agrees(b, &mut c[..n], b2, head, answer)
 }
 
-// The calls of a run.
+// The calls of a run: the plain one alone, or beside it the accumulating one, which is to leave what
+// b2, u2 and v2 hold.
 fn calls(
     b: &mut [f64],
     u: &mut [f64],
@@ -104,21 +107,24 @@ fn calls(
     u2: &[f64],
     v2: &[f64],
     head: Head,
-    answer: Answer,
+    answer: &[u8; 56],
 ) -> Made {
     if head.kept == 0 {
-        return plain(b, b2, head, answer);
+        let call = plain(b, b2, head, answer);
+        let report = call.report;
+        return judged(head, differing(call.agrees, true), report);
     }
     let beside = plain_agrees(b, b2, head, answer);
-    let mut made = full(b, u, v, b2, u2, v2, head, answer);
-    made.agrees = made.agrees && beside;
-    made
+    let settings = head.settings;
+    let report = full_svd_decomposition(b, u, v, head.rows, head.cols, settings);
+    let agrees = report_agrees(report, answer) && same(b, b2) && same(u, u2) && same(v, v2);
+    judged(head, differing(agrees, beside), report)
 }
 
 // Reads what the lists are to be afterwards; of a refused call they are to be as they are. Whether
 // it is there.
-fn read_after(b2: &mut [f64], u2: &mut [f64], v2: &mut [f64], answer: Answer) -> bool {
-    if answer.number != 0 {
+fn read_after(b2: &mut [f64], u2: &mut [f64], v2: &mut [f64], answer: &[u8; 56]) -> bool {
+    if number_in(answer) != 0 {
         return true;
     }
     if !read_list(b2) {
@@ -148,13 +154,14 @@ fn answered(
     v2: &mut [f64],
     head: Head,
 ) -> Seen {
-    let Told::Answer(answer) = read_answer() else {
-        return Seen::Malformed;
-    };
-    if !read_after(b2, u2, v2, answer) {
-        return Seen::Malformed;
+    let mut answer = [0; 56];
+    if !read_answer(&mut answer) {
+        return Seen::Malformed(head.differ > 0);
     }
-    Seen::Run(calls(b, u, v, b2, u2, v2, head, answer))
+    if !read_after(b2, u2, v2, &answer) {
+        return Seen::Malformed(head.differ > 0);
+    }
+    Seen::Run(calls(b, u, v, b2, u2, v2, head, &answer))
 }
 
 // The run of this head, in lists that are as long as it says.
@@ -167,10 +174,11 @@ fn run_in(
     v2: &mut [f64],
     head: Head,
 ) -> Seen
-    requires { ⌜ (length (now b) ≡ length (now b2)) × (length (now u) ≡ length (now u2)) × (length (now v) ≡ length (now v2)) ⌝ }
+    requires { ⌜ (length (now b) ≡ length (now b2)) × (length (now u) ≡ length (now u2))
+        × (length (now v) ≡ length (now v2)) ⌝ }
 {
     if !read_before(b, u, v, head) {
-        return Seen::Malformed;
+        return Seen::Malformed(head.differ > 0);
     }
     copy(b, b2);
     copy(u, u2);
@@ -184,13 +192,13 @@ fn run_of(head: Head) -> Seen {
     let nu = head.u;
     let nv = head.v;
     if n > 2401 {
-        return Seen::Malformed;
+        return Seen::Malformed(head.differ > 0);
     }
     if nu > 2401 {
-        return Seen::Malformed;
+        return Seen::Malformed(head.differ > 0);
     }
     if nv > 2401 {
-        return Seen::Malformed;
+        return Seen::Malformed(head.differ > 0);
     }
     let mut b = blank();
     let mut u = blank();
@@ -213,7 +221,7 @@ fn run_of(head: Head) -> Seen {
 pub(crate) fn next_run() -> Seen {
     match read_head() {
         Found::End => Seen::End,
-        Found::Malformed => Seen::Malformed,
+        Found::Malformed => Seen::Malformed(false),
         Found::Head(head) => run_of(head),
     }
 }

@@ -3,13 +3,16 @@
 //   kept: 0 for the plain call, 1 for the accumulating one,
 //   start: 0 where U and V start as the identity, or there are none; 1 where they are stored,
 //   how long matrix, U and V are, each at most 49 x 49; with kept 0, U and V have length 0;
+//   differ: how many of the run's calls have to differ from what follows; 0, or 1 or 2 where the run
+//     is wrong on purpose;
 //   the matrix, and with start 1, U and V;
-//   the answer: number, place, word (0 none, 1 settled, 2 stopped), passes, sweeps, drops, range;
+//   the answer: the report's words, in the order of `words_of`;
 //   with number 0 the matrix, U and V afterwards; else they are as they were.
 use crate::bits::decode;
 use crate::bits::word;
 use checks::settings::Settings;
 use factors::identity::identity_flat;
+use svd::report::Report;
 ghost use mathlib.Core.Path.{_≡_};
 ghost use Prim.Native.Nat.{_≤_};
 ghost use lib.ListN.{length};
@@ -24,17 +27,7 @@ pub(crate) struct Head {
     pub(crate) matrix: usize,
     pub(crate) u: usize,
     pub(crate) v: usize,
-}
-
-// The report that the original gave.
-pub(crate) struct Answer {
-    pub(crate) number: u64,
-    pub(crate) place: u64,
-    pub(crate) word: u64,
-    pub(crate) passes: u64,
-    pub(crate) sweeps: u64,
-    pub(crate) drops: u64,
-    pub(crate) range: u64,
+    pub(crate) differ: u64,
 }
 
 // What was found where a head should be.
@@ -44,24 +37,11 @@ pub(crate) enum Found {
     Head(Head),
 }
 
-// What was found where an answer should be.
-pub(crate) enum Told {
-    Malformed,
-    Answer(Answer),
-}
-
 // Room for the words of a head.
-fn head_room() -> [u8; 96]
-    ensures { λ r. ⌜ 96 ≡ length r ⌝ }
+fn head_room() -> [u8; 104]
+    ensures { λ r. ⌜ 104 ≡ length r ⌝ }
 {
-    [0; 96]
-}
-
-// Room for the words of an answer.
-fn answer_room() -> [u8; 56]
-    ensures { λ r. ⌜ 56 ≡ length r ⌝ }
-{
-    [0; 56]
+    [0; 104]
 }
 
 // Room for the words of the longest list.
@@ -73,7 +53,7 @@ fn list_room() -> [u8; 19208]
 
 // The settings of a head's words.
 fn settings_of(bytes: &[u8]) -> Settings
-    requires { ⌜ 96 ≤ length (now bytes) ⌝ }
+    requires { ⌜ 104 ≤ length (now bytes) ⌝ }
 {
     Settings {
         limit: word(bytes, 16) as usize,
@@ -86,7 +66,7 @@ fn settings_of(bytes: &[u8]) -> Settings
 
 // The head of its words.
 fn head_of(bytes: &[u8]) -> Head
-    requires { ⌜ 96 ≤ length (now bytes) ⌝ }
+    requires { ⌜ 104 ≤ length (now bytes) ⌝ }
 {
     let settings = settings_of(bytes);
     Head {
@@ -98,22 +78,40 @@ fn head_of(bytes: &[u8]) -> Head
         matrix: word(bytes, 72) as usize,
         u: word(bytes, 80) as usize,
         v: word(bytes, 88) as usize,
+        differ: word(bytes, 96),
     }
 }
 
-// The answer of its words.
-fn answer_of(bytes: &[u8]) -> Answer
-    requires { ⌜ 56 ≤ length (now bytes) ⌝ }
-{
-    Answer {
-        number: word(bytes, 0),
-        place: word(bytes, 8),
-        word: word(bytes, 16),
-        passes: word(bytes, 24),
-        sweeps: word(bytes, 32),
-        drops: word(bytes, 40),
-        range: word(bytes, 48),
+// The words of a report, the number first: the one list of them.
+fn words_of(r: Report) -> [u64; 7] {
+    let word = r.word;
+    [
+        r.refusal.number as u64,
+        r.refusal.place as u64,
+        word.number(),
+        r.tally.passes as u64,
+        r.tally.sweeps as u64,
+        r.tally.drops as u64,
+        r.tally.range as u64,
+    ]
+}
+
+// The refusal's number in an answer.
+pub(crate) fn number_in(answer: &[u8; 56]) -> u64 {
+    word(answer, 0)
+}
+
+// Whether the report's words are the answer's.
+pub(crate) fn report_agrees(report: Report, answer: &[u8; 56]) -> bool {
+    let words = words_of(report);
+    let mut i = 0;
+    while i < 7 {
+        if words[i] != word(answer, 8 * i) {
+            return false;
+        }
+        i += 1;
     }
+    true
 }
 
 // Whether a head is one that is stored: the plain call has no U and V.
@@ -131,7 +129,7 @@ pub(crate) fn read_head() -> Found {
     if n == 0 {
         return Found::End;
     }
-    if n < 96 {
+    if n < 104 {
         return Found::Malformed;
     }
     let head = head_of(&bytes);
@@ -142,14 +140,9 @@ pub(crate) fn read_head() -> Found {
     }
 }
 
-// Reads the next answer.
-pub(crate) fn read_answer() -> Told {
-    let mut bytes = answer_room();
-    let n = io::read_full(0, &mut bytes);
-    if n < 56 {
-        return Told::Malformed;
-    }
-    Told::Answer(answer_of(&bytes))
+// Reads the next answer; whether it is there.
+pub(crate) fn read_answer(answer: &mut [u8; 56]) -> bool {
+    io::read_full(0, answer) == 56
 }
 
 // Fills the list from the next words, for which there is just the room; whether they are there.

@@ -1,17 +1,18 @@
 // What has been counted of the runs, from what the calls answered, and how it is printed.
 use crate::replay::Made;
+use score::Score;
 use svd::report::Report;
 use svd::report::Word;
 
 pub(crate) struct Totals {
     // Whether the input goes on.
     pub(crate) more: bool,
-    runs: u64,
+    score: Score,
+    // Of the runs that are not wrong on purpose.
     refused: u64,
     settled: u64,
     stopped: u64,
     passes: u64,
-    differ: u64,
 }
 
 // The sum, or the largest number where it would be above that.
@@ -28,14 +29,14 @@ fn print(number: u64, words: &[u8]) {
 impl Totals {
     // Nothing has been counted.
     pub(crate) fn new() -> Totals {
+        let score = Score::new();
         Totals {
             more: true,
-            runs: 0,
+            score,
             refused: 0,
             settled: 0,
             stopped: 0,
             passes: 0,
-            differ: 0,
         }
     }
 
@@ -48,17 +49,31 @@ impl Totals {
     // One run more.
     pub(crate) fn counted(self, made: Made) -> Totals {
         let report = made.report;
-        let totals = self.answered(report);
-        if made.agrees {
+        let totals = self.scored(made.wrong, made.agrees);
+        if made.wrong {
             totals
         } else {
-            totals.differs()
+            totals.answered(report)
         }
+    }
+
+    // One run more, of which only this is known. Prints its number, among the right or the wrong
+    // ones, where it is not as told.
+    fn scored(mut self, wrong: bool, agrees: bool) -> Totals {
+        let before = self.score;
+        let score = before.counted(wrong, agrees);
+        if wrong && agrees {
+            print(score.wrong, b" is wrong on purpose and was not found\n");
+        }
+        if !wrong && !agrees {
+            print(score.right, b" differs\n");
+        }
+        self.score = score;
+        self
     }
 
     // The same, of which the library answered this.
     fn answered(mut self, report: Report) -> Totals {
-        self.runs = plus(self.runs, 1);
         self.passes = plus(self.passes, report.tally.passes as u64);
         let word = report.word;
         match word {
@@ -75,26 +90,22 @@ impl Totals {
         self
     }
 
-    // The run that was counted last differs: prints its number.
-    pub(crate) fn differs(mut self) -> Totals {
-        self.differ = plus(self.differ, 1);
-        print(self.runs, b" differs\n");
-        self
+    // The rest is no run: it counts as one, and ends the input.
+    pub(crate) fn malformed(self, wrong: bool) -> Totals {
+        self.scored(wrong, false).ended()
     }
 
-    // The rest is no run: it counts as one that differs, and ends the input.
-    pub(crate) fn malformed(mut self) -> Totals {
-        self.runs = plus(self.runs, 1);
-        self.differs().ended()
-    }
-
-    // A line such as "9 runs: 2 refused, 4 settled, 3 stopped, 70 passes, 0 differ".
+    // A line such as "9 runs: 2 refused, 4 settled, 3 stopped, 70 passes, 0 differ; 5 wrong on
+    // purpose, 5 found".
     pub(crate) fn print(self) {
-        print(self.runs, b" runs: ");
+        let score = self.score;
+        print(score.right, b" runs: ");
         print(self.refused, b" refused, ");
         print(self.settled, b" settled, ");
         print(self.stopped, b" stopped, ");
         print(self.passes, b" passes, ");
-        print(self.differ, b" differ\n");
+        print(score.differ, b" differ; ");
+        print(score.wrong, b" wrong on purpose, ");
+        print(score.found, b" found\n");
     }
 }

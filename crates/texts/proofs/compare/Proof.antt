@@ -1,34 +1,24 @@
--- `texts::compare` meets its contract: no more texts were compared than bytes were passed; the measure is how many are left. Assumes nothing.
+-- `texts::compare` meets its contract: each piece has a byte of those that are left; the measure is how many these are. Assumes nothing.
 use Prim.Native.Nat.{_-_, _≤_}
+use native.Mathlib.Omega.{arith}
 use borrow.Author.Needs.{needs}
-use lib.ListN.{length}
+use lib.ListN.{length, length-take, length-drop}
 use Rattle.texts.proofs.compare.Statement.{statement}
 use Rattle.texts.proofs.compare.Tie as tie
 
 abbrev Inv-loop : tie.InvT-loop
-Inv-loop list compared₀ differ₀ at₀ compared differ at = (at ≤ length list) × (compared ≤ at) × (differ ≤ compared)
+Inv-loop list score₀ at₀ score at = at ≤ length list
 
 abbrev μ-loop : tie.MeasureT-loop
-μ-loop list compared₀ differ₀ at₀ compared differ at = length list - at
+μ-loop list score₀ at₀ score at = length list - at
+
+step-requires : tie.Need-step-requires Inv-loop μ-loop
+step-requires c κs = simp (length-take, length-drop) (omega arith)
 
 pub compare-spec : {M : Type 1} → statement M
 compare-spec =
     tie.close
     (tie.spec
-    Inv-loop
-    μ-loop
-    (λ c. search needs)
-    (λ c κs. search needs)
-    (λ c. search needs)
-    (λ c. search needs)
-    (λ c. search needs)
-    (λ c. search needs)
-    (λ c κs. search needs)
-    (λ c κs. search needs)
-    (λ c. search needs)
-    (λ c. search needs)
-    (λ c. search needs)
-    (λ c. search needs)
-    (λ c. search needs)
-    (λ c κs. search needs)
-    (λ c. search needs))
+    Inv-loop μ-loop
+    (λ c κs. search needs) (λ c. search needs) (λ c κs. search needs) (λ c. search needs) (λ c. search needs)
+    (λ c. search needs) step-requires (λ c. search needs) (λ c. search needs) (λ c. search needs))

@@ -10,10 +10,5 @@ pub plain-agrees-spec : {M : Type 1} → statement M
 plain-agrees-spec =
     tie.close
     (tie.spec
-    (λ c. search needs)
-    (λ c κs. search needs)
-    (λ c. search needs)
-    (λ c. search needs)
-    (λ c. sym (length-take-le _ _ (omega arith)))
-    (λ c κs. sym (length-take-le _ _ (omega arith)))
-    (λ c. search needs))
+    (λ c κs. search needs) (λ c. search needs) (λ c κs. search needs) (λ c. search needs) (λ c. search needs)
+    (λ c. sym (length-take-le _ _ (omega arith))) (λ c κs. sym (length-take-le _ _ (omega arith))) (λ c. search needs))

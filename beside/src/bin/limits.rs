@@ -1,0 +1,5 @@
+//! Prints what the program `limits` is to print.
+
+fn main() {
+    print!("{}", beside::limits::printed());
+}

@@ -1,0 +1,2 @@
+-- What the counts of a score are.
+pub mod Counts
