@@ -7,12 +7,13 @@ pub mod Found
 pub mod LineSize
 pub mod Bodies
 pub mod Heads
-pub mod Answer
+pub mod Verdict
 pub mod Writing
 pub mod Whole
 pub mod TextSize
 pub mod Room
 pub mod Prefix
 pub mod Round
-pub mod Told
+pub mod Answers
+pub mod Surveys
 pub mod Example

@@ -21,8 +21,9 @@ use Rattle.survey.specs.Print.{rowsText, refusedWord, wordText, reportTe
 use Rattle.survey.specs.Code.{Small, surveyOf}
 use Rattle.survey.specs.Found.{InRange}
 use Rattle.survey.specs.Writing.{refusal-is, length-rows, outcome-accepted, outcome-refused}
-use Rattle.survey.specs.Answer.{Table, small, same-size}
-use Rattle.survey.specs.Whole.{All, contents-all, body-length, area}
+use Rattle.survey.specs.Verdict.{small, same-size}
+use Rattle.survey.specs.Surveys.{table}
+use Rattle.survey.specs.Whole.{All, contents-all, survey-length, area}
 use Rattle.survey.specs.LineSize.{line-size}
 use Rattle.survey.specs.TextSize.{contents-size}
 
@@ -54,15 +55,12 @@ refusal-most (suc n) h = rw (refusal-is (suc n) (omega arith)) (line-most (refus
 -- ---- a survey
 
 module _ (e : Entry) (xs : List Float) (r : InRange e) (l : length xs ≡ e .rows * e .cols) where
-  table : Table (e .rows) (e .cols) xs
-  table = record { rows-least = r .rows-least; rows-most = r .rows-most; cols-least = r .cols-least; cols-most = r .cols-most; size = l }
-
   abbrev told : Outcome
   told = plainOutcome binary64 (e .rows) (e .cols) defaults xs
 
   survey-most : length (surveyText (surveyOf e xs)) ≤ 39216
   unfolding surveyText reportText refusedText
-  survey-most = go (eqb (told .report .refusal .number) 0) refl (small (e .rows) (e .cols) xs table) (same-size (e .rows) (e .cols) xs table)
+  survey-most = go (eqb (told .report .refusal .number) 0) refl (small (e .rows) (e .cols) xs (table e xs r l)) (same-size (e .rows) (e .cols) xs (table e xs r l))
     where
       id-few : e .id < 1000000
       id-few = omega (arith, r .id-most)
@@ -143,9 +141,7 @@ bodies-most (e ∷ es) n t a h = go (body (e .rows) (e .cols - 1) n t) refl (λ 
         rw (bodies, x) (omega (arith, refusal-most m (omega (arith, a .0 .rows-most))))
     go (got xs m s) x ih =
         let k : m ≤ n + e .rows = rw x at lines in
-        let c₁ : e .cols - 1 + 1 ≡ e .cols = omega (arith, a .0 .cols-least) in
-        let z : length xs ≡ e .rows * e .cols = rw c₁ at (body-length (e .rows) (e .cols - 1) n t xs m s x) in
-        let w = survey-most e xs (a .0) z in
+        let w = survey-most e xs (a .0) (survey-length e (a .0) n t xs m s x) in
         let q : printed (bodies (e ∷ es) n t) ≡ surveyText (surveyOf e xs) ++ printed (bodies es m s) = rw (bodies, x) (append-assoc (surveyText (surveyOf e xs)) _ _) in
         rw q (omega (arith, length-append (surveyText (surveyOf e xs)) (printed (bodies es m s)), w, ih m s (omega (arith, k, a .0 .rows-most))))
 

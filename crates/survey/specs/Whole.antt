@@ -66,6 +66,13 @@ body-length (suc r) c n t xs n₁ t₁ e =
     let ih = body-length r c (p .1) (p .2) (q .0) (q .1) (q .2) (q .3) in
     omega (arith, ap length z, length-append (p .0) (q .0), row-length c (l .0) (p .0) (l .1), ih, suc-mul r (c + 1))
 
+-- and so has that of an entry
+pub survey-length : (e : Entry) → InRange e → (n : ℕ) (t : Bytes) (xs : List Float) (n₁ : ℕ) (t₁ : Bytes)
+    → body (e .rows) (e .cols - 1) n t ≡ got xs n₁ t₁ → length xs ≡ e .rows * e .cols
+survey-length e r n t xs n₁ t₁ h =
+    let c₁ : e .cols - 1 + 1 ≡ e .cols = omega (arith, r .cols-least) in
+    rw c₁ at (body-length (e .rows) (e .cols - 1) n t xs n₁ t₁ h)
+
 -- ---- what the code's body says
 
 pub body-yes : (r c n : ℕ) (t : Bytes) (m m₁ : List Float) (n₁ : ℕ) (t₁ : Bytes) → got m₁ n₁ t₁ ≡ bodyStored r c n t m 0
@@ -159,8 +166,7 @@ module _ (t : Bytes) (es : List Entry) (count i n p : ℕ) (h : i < count) (l : 
             → (printed (bodies (drop i (take count es)) n (drop p t)) ≡ surveyText (surveyOf e (take (e .rows * e .cols) m₁)) ++ printed (bodies (drop (i + 1) (take count es)) (b .line) (drop (b .at) t))) × (length m₁ ≡ 2304)
         more xs j x y =
             let r : InRange e = rw is range in
-            let c₁ : e .cols - 1 + 1 ≡ e .cols = omega (arith, r .cols-least) in
-            let z : length xs ≡ e .rows * e .cols = rw c₁ at (body-length (e .rows) (e .cols - 1) n (drop p t) xs (b .line) (drop (b .at) t) x) in
+            let z = survey-length e r n (drop p t) xs (b .line) (drop (b .at) t) x in
             let v : e .rows * e .cols ≤ 48 * 48 = mul-le-mul (r .rows-most) (r .cols-most) in (
               rw (y, stored-first (e .rows * e .cols) m xs z (omega (arith, v, w)), j) (next-got (take count es) i n (drop p t) inside xs (b .line) (drop (b .at) t) (rw (← j) x)),
               rw (y, length-sets) w,
