@@ -1,5 +1,6 @@
 -- The survey text: its form, what `split` prints of it, and the laws.
 pub mod Form
+pub mod Sizes
 pub mod Print
 pub mod Code
 pub mod Lines

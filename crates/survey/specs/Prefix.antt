@@ -13,6 +13,7 @@ use lib.Seq.{length-take-le, take-all}
 use Rattle.survey.specs.declared.reading.Entry.{Entry}
 use Rattle.text.specs.Text.{Bytes, LF, _>>=_, when, cut}
 use Rattle.text.specs.Numerals.{number-range}
+use Rattle.survey.specs.Sizes.{longest, enough}
 use Rattle.survey.specs.Form.{countLine, entryLine, rowLine, short, Got, malformed, got, line, andThen, contents, head, body, bodies, reading}
 use Rattle.survey.specs.Print.{printed, split}
 use Rattle.survey.specs.LineSize.{line-size, count-size}
@@ -144,7 +145,7 @@ bodies-further (x ∷ es) n s z a h = go (body (x .rows) (x .cols - 1) n s) refl
 
 -- ---- the whole text
 
-pub reading-further : (s z : Bytes) → 313443 ≤ length s → reading (s ++ z) ≡ reading s
+pub reading-further : (s z : Bytes) → enough ≤ length s → reading (s ++ z) ≡ reading s
 unfolding reading head andThen further countLine
 reading-further s z h = go (line countLine 1 s) refl
   where
@@ -162,7 +163,7 @@ reading-further s z h = go (line countLine 1 s) refl
             last g e f c (omega (arith, l .2, count-size (l .0) k (l .1))) i
           where
             last : (g : Got (List Entry)) → line countLine 1 s ≡ got k n t → contents k [] n t ≡ g → contents k [] n (t ++ z) ≡ further z (contents k [] n t)
-                → 313441 ≤ length t → k ≤ 8 → reading (s ++ z) ≡ reading s
+                → longest - 1 ≤ length t → k ≤ 8 → reading (s ++ z) ≡ reading s
             last (malformed m) e f c y i = rw (reading, first, e, c, f)
             last (got es m t₁) e f c y i =
                 let d = contents-size k [] n t es m t₁ f in
@@ -174,13 +175,13 @@ reading-further s z h = go (line countLine 1 s) refl
     go (got k n t) e = mid k n t (contents k [] n t) e refl
 
 -- What is printed of a text is what is printed of its first 313,443 bytes.
-pub split-prefix : (t : Bytes) → split t ≡ split (take 313443 t)
+pub split-prefix : (t : Bytes) → split t ≡ split (take enough t)
 unfolding split
-split-prefix t = go (ltb (length t) 313443) refl
+split-prefix t = go (ltb (length t) enough) refl
   where
-    go : (b : Bool) → ltb (length t) 313443 ≡ b → printed (reading t) ≡ printed (reading (take 313443 t))
-    go true e = let h = ltb-true (length t) 313443 e in rw (take-all 313443 t (omega arith))
+    go : (b : Bool) → ltb (length t) enough ≡ b → printed (reading t) ≡ printed (reading (take enough t))
+    go true e = let h = ltb-true (length t) enough e in rw (take-all enough t (omega arith))
     go false e =
-        let h = ltb-false (length t) 313443 e in
-        let f = reading-further (take 313443 t) (drop 313443 t) (omega (arith, length-take-le 313443 t h)) in
-        ap printed (rw (take-append-drop 313443 t) at f)
+        let h = ltb-false (length t) enough e in
+        let f = reading-further (take enough t) (drop enough t) (omega (arith, length-take-le enough t h)) in
+        ap printed (rw (take-append-drop enough t) at f)

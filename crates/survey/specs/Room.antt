@@ -16,6 +16,7 @@ use Rattle.survey.specs.declared.reading.Entry.{Entry}
 use Rattle.text.specs.Text.{Bytes, LF, _>>=_, cut, shown, ending, lineText}
 use Rattle.text.specs.Numerals.{number-range}
 use Rattle.text.specs.Writing.{length-shown, places-most}
+use Rattle.survey.specs.Sizes.{room}
 use Rattle.survey.specs.Form.{countLine, entryLine, rowLine, short, Got, malformed, got, line, andThen, contents, head, body, bodies, reading}
 use Rattle.survey.specs.Print.{rowsText, refusedWord, wordText, reportText, refusedText, outcomeText, surveyText, surveysText, refusalText, printed, split}
 use Rattle.survey.specs.Code.{Small, surveyOf}
@@ -146,14 +147,14 @@ bodies-most (e ∷ es) n t a h = go (body (e .rows) (e .cols - 1) n t) refl (λ 
         rw q (omega (arith, length-append (surveyText (surveyOf e xs)) (printed (bodies es m s)), w, ih m s (omega (arith, k, a .0 .rows-most))))
 
 -- what is printed of any bytes has at most 314,000
-pub split-most : (t : Bytes) → length (split t) ≤ 314000
+pub split-most : (t : Bytes) → length (split t) ≤ room
 unfolding split reading head andThen countLine lineOf printed surveysText
 split-most t = go (line countLine 1 t) refl (one-line countLine 1 t)
   where
-    bad : (m : ℕ) → m < 1000000 → head 1 t ≡ malformed m → length (printed (reading t)) ≤ 314000
+    bad : (m : ℕ) → m < 1000000 → head 1 t ≡ malformed m → length (printed (reading t)) ≤ room
     bad m h e = rw (reading, e) (omega (arith, refusal-most m h))
 
-    mid : (k n : ℕ) (s : Bytes) (g : Got (List Entry)) → line countLine 1 t ≡ got k n s → contents k [] n s ≡ g → n ≤ 2 → k ≤ 8 → lineOf g ≤ n + k → length (printed (reading t)) ≤ 314000
+    mid : (k n : ℕ) (s : Bytes) (g : Got (List Entry)) → line countLine 1 t ≡ got k n s → contents k [] n s ≡ g → n ≤ 2 → k ≤ 8 → lineOf g ≤ n + k → length (printed (reading t)) ≤ room
     mid k n s (malformed m) e f h i j = let d : head 1 t ≡ malformed m = rw (e, f) in bad m (omega arith) d
     mid k n s (got es n₁ t₁) e f h i j =
         let d : head 1 t ≡ got es n₁ t₁ = rw (e, f) in
@@ -161,7 +162,7 @@ split-most t = go (line countLine 1 t) refl (one-line countLine 1 t)
         let b = bodies-most es n₁ t₁ (contents-all k [] n s es n₁ t₁ f tt) (omega (arith, c .1)) in
         rw (reading, d) (omega (arith, b, c .1))
 
-    go : (g : Got ℕ) → line countLine 1 t ≡ g → lineOf g ≤ 1 + 1 → length (printed (reading t)) ≤ 314000
+    go : (g : Got ℕ) → line countLine 1 t ≡ g → lineOf g ≤ 1 + 1 → length (printed (reading t)) ≤ room
     go (malformed m) e h = let d : head 1 t ≡ malformed m = rw e in bad m (omega arith) d
     go (got k n s) e h =
         let l = line-size countLine 1 t k n s e in

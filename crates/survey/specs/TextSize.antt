@@ -10,6 +10,7 @@ use lib.ListN.{length, length-append}
 use Rattle.survey.specs.declared.reading.Entry.{Entry}
 use Rattle.text.specs.Text.{Bytes, LF, _>>=_, cut}
 use Rattle.text.specs.Numerals.{number-range}
+use Rattle.survey.specs.Sizes.{longest}
 use Rattle.survey.specs.Form.{countLine, entryLine, rowLine, short, Got, malformed, got, line, andThen, contents, head, body, bodies, reading}
 use Rattle.survey.specs.Found.{then-got}
 use Rattle.survey.specs.LineSize.{count-size, entry-size, row-size, line-size}
@@ -114,14 +115,14 @@ bodies-size (x ∷ es) n t a h e = go (body (x .rows) (x .cols - 1) n t) refl (�
         omega (arith, s .0, area x (a .0) .1, ih n₁ t₁ (omega (arith, s .1)) q)
 
 -- a text without a malformed line has at most 313,442 bytes
-pub text-size : (t : Bytes) → (reading t) .malformedLine ≡ 0 → length t ≤ 313442
+pub text-size : (t : Bytes) → (reading t) .malformedLine ≡ 0 → length t ≤ longest
 unfolding reading head andThen countLine
 text-size t e = go (line countLine 1 t) refl
   where
     no : (m : ℕ) → head 1 t ≡ malformed m → 1 ≤ m → ⊥
     no m h g = let q : m ≡ 0 = rw (reading, h) at e in omega arith
 
-    mid : (k n : ℕ) (s : Bytes) (g : Got (List Entry)) → line countLine 1 t ≡ got k n s → contents k [] n s ≡ g → length t ≤ 313442
+    mid : (k n : ℕ) (s : Bytes) (g : Got (List Entry)) → line countLine 1 t ≡ got k n s → contents k [] n s ≡ g → length t ≤ longest
     mid k n s (malformed m) h j =
         let d : head 1 t ≡ malformed m = rw (h, j) in
         let l = line-size countLine 1 t k n s h in
@@ -133,7 +134,7 @@ text-size t e = go (line countLine 1 t) refl
         let q : (bodies es n₁ t₁) .malformedLine ≡ 0 = rw (reading, d) at e in
         omega (arith, l .2, count-size (l .0) k (l .1), c .0, c .1, number-range 8 (l .0) k (l .1) .1, bodies-size es n₁ t₁ (contents-all k [] n s es n₁ t₁ j tt) (omega (arith, l .3, c .2)) q)
 
-    go : (g : Got ℕ) → line countLine 1 t ≡ g → length t ≤ 313442
+    go : (g : Got ℕ) → line countLine 1 t ≡ g → length t ≤ longest
     go (malformed m) h =
         let d : head 1 t ≡ malformed m = rw h in
         absurd (no m d (omega (arith, line-bad-line countLine 1 t m h)))

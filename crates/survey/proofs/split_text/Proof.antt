@@ -9,6 +9,7 @@ use lib.ListN.{length, getD, take}
 use lib.Ieee.{Float}
 use Rattle.survey.specs.declared.reading.Entry.{Entry}
 use Rattle.text.specs.Text.{Bytes, Written}
+use Rattle.survey.specs.Sizes.{room}
 use Rattle.survey.specs.Print.{split, surveyText}
 use Rattle.survey.specs.Code.{surveyOf}
 use Rattle.survey.specs.Lines.{zeros}
@@ -29,7 +30,7 @@ record Held (text out₀ out : Bytes) (es : List Entry) (count line p : ℕ) (m 
   m-length : length m ≡ 2304
   all : All (take count es)
   same : length out ≡ length out₀
-  roomy : 0 < i → length out ≡ 314000
+  roomy : 0 < i → length out ≡ room
   goes : (o : Bytes) (r : ℕ) → Wrote out q (left text es count i line p) o r → Wrote out₀ 0 (split text) o r
 
 abbrev Inv-loop : tie.InvT-loop
@@ -39,7 +40,7 @@ abbrev μ-loop : tie.MeasureT-loop
 μ-loop text out₀ es count line₀ p₀ m₀ q₀ i₀ out line p m q i = count - i
 
 -- the whole was written, since it has room
-settled : (text out₀ out₁ : Bytes) (r : ℕ) → length out₀ ≡ 314000 → Wrote out₀ 0 (split text) out₁ r → Written out₀ 0 (split text) out₁ r × (r ≤ 314000)
+settled : (text out₀ out₁ : Bytes) (r : ℕ) → length out₀ ≡ room → Wrote out₀ 0 (split text) out₁ r → Written out₀ 0 (split text) out₁ r × (r ≤ room)
 settled text out₀ out₁ r n w =
     let most = split-most text in
     let f = w .fits (omega arith) in
@@ -47,7 +48,7 @@ settled text out₀ out₁ r n w =
 
 -- what is written at the end of what was, is the whole
 finished : (text out₀ out out₁ : Bytes) (es : List Entry) (count line p : ℕ) (m : List Float) (q i r : ℕ) (s : Bytes) → Held text out₀ out es count line p m q i
-    → length out ≡ 314000 → left text es count i line p ≡ s → Wrote out q s out₁ r → Written out₀ 0 (split text) out₁ r × (r ≤ 314000)
+    → length out ≡ room → left text es count i line p ≡ s → Wrote out q s out₁ r → Written out₀ 0 (split text) out₁ r × (r ≤ room)
 finished text out₀ out out₁ es count line p m q i r s h n e w = settled text out₀ out₁ r (sym (h .same) ∙ n) (h .goes out₁ r (rw e w))
 
 -- the entry at hand is in range
