@@ -49,9 +49,13 @@ pub data Got (A : Type 0) : Type 0 where
   malformed : ℕ → Got A
   got : A → ℕ → Bytes → Got A
 
--- the line itself, where it has at most 815 bytes
+-- how many bytes a line has at most, before its LF
+abbrev pub mostLine : ℕ
+mostLine = 815
+
+-- the line itself, where it has no more
 unfoldable pub short : Bytes → Option Bytes
-short l = when (leb (length l) 815) l
+short l = when (leb (length l) mostLine) l
 
 -- one line by its rule: malformed where the line is missing or has no LF, where it has more than 815 bytes, or where the rule refuses it
 unfoldable pub line : {A : Type 0} → (Bytes → Option A) → ℕ → Bytes → Got A

@@ -14,7 +14,7 @@ use Rattle.survey.specs.declared.reading.Entry.{Entry}
 use Rattle.text.specs.Text.{Bytes, LF, _>>=_, when, cut}
 use Rattle.text.specs.Numerals.{number-range}
 use Rattle.survey.specs.Sizes.{longest, enough}
-use Rattle.survey.specs.Form.{countLine, entryLine, rowLine, short, Got, malformed, got, line, andThen, contents, head, body, bodies, reading}
+use Rattle.survey.specs.Form.{countLine, entryLine, rowLine, mostLine, short, Got, malformed, got, line, andThen, contents, head, body, bodies, reading}
 use Rattle.survey.specs.Print.{printed, split}
 use Rattle.survey.specs.LineSize.{line-size, count-size}
 use Rattle.survey.specs.Whole.{All, contents-all, area}
@@ -79,7 +79,7 @@ cut-past stop (b ∷ s) z p e f = go (eqb b stop) refl (cut-past stop s z)
 
 long : {A : Type 0} (rule : Bytes → Option A) (l : Bytes) → 815 < length l → (short l >>= rule) ≡ none
 unfolding short when _>>=_
-long rule l h = rw (lt-leb (length l) 815 h)
+long rule l h = rw (lt-leb (length l) mostLine (omega arith))
 
 -- one line is read alike with anything after more than 815 bytes
 pub line-further : {A : Type 0} (rule : Bytes → Option A) (n : ℕ) (s z : Bytes) → 815 < length s → line rule n (s ++ z) ≡ further z (line rule n s)

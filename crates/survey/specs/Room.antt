@@ -2,7 +2,7 @@
 use mathlib.Core.Path.{_≡_, refl}
 use mathlib.Core.Bool.{Bool, true, false}
 use mathlib.Core.Option.{Option, none, some}
-use mathlib.Core.List.{List, [], _∷_, _++_, append-assoc}
+use mathlib.Core.List.{List, [], _∷_, _++_}
 use Prim.Native.Nat.{ℕ, zero, suc, _+_, _-_, _*_, _<_, _≤_}
 use native.Mathlib.Omega.{arith}
 use borrow.Author.Tests.{eqb-true, eqb-false}
@@ -24,7 +24,7 @@ use Rattle.survey.specs.Found.{InRange}
 use Rattle.survey.specs.Writing.{refusal-is, length-rows, outcome-accepted, outcome-refused}
 use Rattle.survey.specs.Verdict.{small, same-size}
 use Rattle.survey.specs.Surveys.{table}
-use Rattle.survey.specs.Whole.{All, contents-all, survey-length, area}
+use Rattle.survey.specs.Whole.{All, contents-all, survey-length, printed-first, area}
 use Rattle.survey.specs.LineSize.{line-size}
 use Rattle.survey.specs.TextSize.{contents-size}
 
@@ -143,7 +143,7 @@ bodies-most (e ∷ es) n t a h = go (body (e .rows) (e .cols - 1) n t) refl (λ 
     go (got xs m s) x ih =
         let k : m ≤ n + e .rows = rw x at lines in
         let w = survey-most e xs (a .0) (survey-length e (a .0) n t xs m s x) in
-        let q : printed (bodies (e ∷ es) n t) ≡ surveyText (surveyOf e xs) ++ printed (bodies es m s) = rw (bodies, x) (append-assoc (surveyText (surveyOf e xs)) _ _) in
+        let q : printed (bodies (e ∷ es) n t) ≡ surveyText (surveyOf e xs) ++ printed (bodies es m s) = rw (bodies, x) (printed-first (surveyOf e xs) (bodies es m s .surveys) (bodies es m s .malformedLine)) in
         rw q (omega (arith, length-append (surveyText (surveyOf e xs)) (printed (bodies es m s)), w, ih m s (omega (arith, k, a .0 .rows-most))))
 
 -- what is printed of any bytes has at most 314,000

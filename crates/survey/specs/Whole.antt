@@ -14,7 +14,7 @@ use Rattle.survey.specs.declared.reading.Entry.{Entry}
 use Rattle.survey.specs.declared.reading.Place.{Place}
 use Rattle.survey.specs.declared.reading.Head.{Head}
 use Rattle.text.specs.Text.{Bytes}
-use Rattle.survey.specs.Form.{entryLine, rowLine, Got, malformed, got, line, andThen, contents, countLine, head, body, bodies, reading}
+use Rattle.survey.specs.Form.{entryLine, rowLine, Got, malformed, got, line, andThen, contents, countLine, head, body, bodies, reading, Survey, Reading}
 use Rattle.survey.specs.Print.{surveyText, surveysText, refusalText, printed, split}
 use Rattle.survey.specs.Code.{placed, bodyStored, headed, surveyOf}
 use Rattle.survey.specs.Lines.{zeros}
@@ -22,6 +22,11 @@ use Rattle.survey.specs.LineSize.{line-size}
 use Rattle.survey.specs.Bodies.{row-length}
 use Rattle.survey.specs.Found.{InRange, entry-range, then-got}
 use Rattle.survey.specs.Heads.{headed-got}
+
+-- ---- names
+
+abbrev pub readingOf : List Survey → ℕ → Reading
+readingOf ss n = record { surveys = ss; malformedLine = n }
 
 -- ---- every entry of the contents is in range
 
@@ -94,6 +99,12 @@ body-no r c n t m k e = go (body r c n t) refl
 
 -- ---- what is printed
 
+-- a survey's text comes first, and then what is printed of the rest: the refusal stands behind every survey
+pub printed-first : (s : Survey) (ss : List Survey) (n : ℕ)
+    → printed (readingOf (s ∷ ss) n) ≡ surveyText s ++ printed (readingOf ss n)
+unfolding printed surveysText
+printed-first s ss n = append-assoc (surveyText s) (surveysText ss) (refusalText n)
+
 pub split-bad : (t : Bytes) (m : ℕ) → malformed m ≡ head 1 t → split t ≡ refusalText m
 unfolding split reading printed surveysText
 split-bad t m e = rw (reading, ← e)
@@ -112,8 +123,8 @@ module _ (es : List Entry) (i n : ℕ) (t : Bytes) (h : i < length es) where
 
   pub next-got : (xs : List Float) (n₁ : ℕ) (t₁ : Bytes) → body (it .rows) (it .cols - 1) n t ≡ got xs n₁ t₁
       → printed (bodies (drop i es) n t) ≡ surveyText (surveyOf it xs) ++ printed (bodies (drop (i + 1) es) n₁ t₁)
-  unfolding bodies printed surveysText
-  next-got xs n₁ t₁ e = rw (add-one i, drop-cons es i zeros h, bodies, e) (append-assoc (surveyText (surveyOf it xs)) _ _)
+  unfolding bodies
+  next-got xs n₁ t₁ e = rw (add-one i, drop-cons es i zeros h, bodies, e) (printed-first (surveyOf it xs) _ _)
 
 pub end-whole : (es : List Entry) (i n : ℕ) (t : Bytes) (p : ℕ) → i ≡ length es → p ≡ length t → printed (bodies (drop i es) n (drop p t)) ≡ []
 unfolding bodies printed surveysText refusalText
