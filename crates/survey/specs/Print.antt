@@ -71,8 +71,8 @@ surveysText [] = []
 surveysText (s ∷ ss) = surveyText s ++ surveysText ss
 
 -- `refused 9 line`, where a line is malformed
-unfoldable pub refusalText : ℕ → Bytes
-refusalText n =
+unfoldable pub malformedText : ℕ → Bytes
+malformedText n =
     elim (eqb n 0) [
       | true ↦ []
       | false ↦ lineText (refusedWord ∷ shown 9 ∷ shown n ∷ [])
@@ -80,7 +80,7 @@ refusalText n =
 
 -- of a reading, and of any bytes
 unfoldable pub printed : Reading → Bytes
-printed r = surveysText (r .surveys) ++ refusalText (r .malformedLine)
+printed r = surveysText (r .surveys) ++ malformedText (r .malformedLine)
 
 unfoldable pub split : Bytes → Bytes
 split t = printed (reading t)

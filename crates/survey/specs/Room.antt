@@ -18,10 +18,10 @@ use Rattle.text.specs.Numerals.{number-range}
 use Rattle.text.specs.Writing.{length-shown, places-most}
 use Rattle.survey.specs.Sizes.{room}
 use Rattle.survey.specs.Form.{countLine, entryLine, rowLine, short, Got, malformed, got, line, andThen, contents, head, body, bodies, reading}
-use Rattle.survey.specs.Print.{rowsText, refusedWord, wordText, reportText, refusedText, outcomeText, surveyText, surveysText, refusalText, printed, split}
+use Rattle.survey.specs.Print.{rowsText, refusedWord, wordText, reportText, refusedText, outcomeText, surveyText, surveysText, malformedText, printed, split}
 use Rattle.survey.specs.Code.{Small, surveyOf}
 use Rattle.survey.specs.Found.{InRange}
-use Rattle.survey.specs.Writing.{refusal-is, length-rows, outcome-accepted, outcome-refused}
+use Rattle.survey.specs.Writing.{malformed-is, length-rows, outcome-accepted, outcome-refused}
 use Rattle.survey.specs.Verdict.{small, same-size}
 use Rattle.survey.specs.Surveys.{table}
 use Rattle.survey.specs.Whole.{All, contents-all, survey-length, printed-first, area}
@@ -48,10 +48,10 @@ word-most noWord = omega arith
 word-most settled = omega arith
 word-most stopped = omega arith
 
-refusal-most : (n : ℕ) → n < 1000000 → length (refusalText n) ≤ 24
-unfolding refusalText
-refusal-most zero h = omega arith
-refusal-most (suc n) h = rw (refusal-is (suc n) (omega arith)) (line-most (refusedWord ∷ shown 9 ∷ shown (suc n) ∷ []) (omega arith, (shown-most 9 (omega arith), (shown-most (suc n) h, tt))))
+malformed-most : (n : ℕ) → n < 1000000 → length (malformedText n) ≤ 24
+unfolding malformedText
+malformed-most zero h = omega arith
+malformed-most (suc n) h = rw (malformed-is (suc n) (omega arith)) (line-most (refusedWord ∷ shown 9 ∷ shown (suc n) ∷ []) (omega arith, (shown-most 9 (omega arith), (shown-most (suc n) h, tt))))
 
 -- ---- a survey
 
@@ -127,8 +127,8 @@ contents-lines (suc k) es n t = go (line (entryLine es) n t) (one-line (entryLin
 
 bodies-most : (es : List Entry) (n : ℕ) (t : Bytes) → All es → n + 48 * length es < 1000000 → length (printed (bodies es n t)) ≤ 39216 * length es + 24
 unfolding bodies printed surveysText lineOf
-bodies-most [] n [] a h = omega (arith, refusal-most 0 (omega arith))
-bodies-most [] n (b ∷ t) a h = omega (arith, refusal-most n (omega arith))
+bodies-most [] n [] a h = omega (arith, malformed-most 0 (omega arith))
+bodies-most [] n (b ∷ t) a h = omega (arith, malformed-most n (omega arith))
 bodies-most (e ∷ es) n t a h = go (body (e .rows) (e .cols - 1) n t) refl (λ m s. bodies-most es m s (a .1))
   where
     lines : lineOf (body (e .rows) (e .cols - 1) n t) ≤ n + e .rows
@@ -139,7 +139,7 @@ bodies-most (e ∷ es) n t a h = go (body (e .rows) (e .cols - 1) n t) refl (λ 
         → length (printed (bodies (e ∷ es) n t)) ≤ 39216 * suc (length es) + 24
     go (malformed m) x ih =
         let k : m ≤ n + e .rows = rw x at lines in
-        rw (bodies, x) (omega (arith, refusal-most m (omega (arith, a .0 .rows-most))))
+        rw (bodies, x) (omega (arith, malformed-most m (omega (arith, a .0 .rows-most))))
     go (got xs m s) x ih =
         let k : m ≤ n + e .rows = rw x at lines in
         let w = survey-most e xs (a .0) (survey-length e (a .0) n t xs m s x) in
@@ -152,7 +152,7 @@ unfolding split reading head andThen countLine lineOf printed surveysText
 split-most t = go (line countLine 1 t) refl (one-line countLine 1 t)
   where
     bad : (m : ℕ) → m < 1000000 → head 1 t ≡ malformed m → length (printed (reading t)) ≤ room
-    bad m h e = rw (reading, e) (omega (arith, refusal-most m h))
+    bad m h e = rw (reading, e) (omega (arith, malformed-most m h))
 
     mid : (k n : ℕ) (s : Bytes) (g : Got (List Entry)) → line countLine 1 t ≡ got k n s → contents k [] n s ≡ g → n ≤ 2 → k ≤ 8 → lineOf g ≤ n + k → length (printed (reading t)) ≤ room
     mid k n s (malformed m) e f h i j = let d : head 1 t ≡ malformed m = rw (e, f) in bad m (omega arith) d

@@ -15,7 +15,7 @@ use Rattle.survey.specs.declared.reading.Place.{Place}
 use Rattle.survey.specs.declared.reading.Head.{Head}
 use Rattle.text.specs.Text.{Bytes}
 use Rattle.survey.specs.Form.{entryLine, rowLine, Got, malformed, got, line, andThen, contents, countLine, head, body, bodies, reading, Survey, Reading}
-use Rattle.survey.specs.Print.{surveyText, surveysText, refusalText, printed, split}
+use Rattle.survey.specs.Print.{surveyText, surveysText, malformedText, printed, split}
 use Rattle.survey.specs.Code.{placed, bodyStored, headed, surveyOf}
 use Rattle.survey.specs.Lines.{zeros}
 use Rattle.survey.specs.LineSize.{line-size}
@@ -103,9 +103,9 @@ body-no r c n t m k e = go (body r c n t) refl
 pub printed-first : (s : Survey) (ss : List Survey) (n : ℕ)
     → printed (readingOf (s ∷ ss) n) ≡ surveyText s ++ printed (readingOf ss n)
 unfolding printed surveysText
-printed-first s ss n = append-assoc (surveyText s) (surveysText ss) (refusalText n)
+printed-first s ss n = append-assoc (surveyText s) (surveysText ss) (malformedText n)
 
-pub split-bad : (t : Bytes) (m : ℕ) → malformed m ≡ head 1 t → split t ≡ refusalText m
+pub split-bad : (t : Bytes) (m : ℕ) → malformed m ≡ head 1 t → split t ≡ malformedText m
 unfolding split reading printed surveysText
 split-bad t m e = rw (reading, ← e)
 
@@ -117,7 +117,7 @@ module _ (es : List Entry) (i n : ℕ) (t : Bytes) (h : i < length es) where
   abbrev it : Entry
   it = getD es i zeros
 
-  pub next-bad : (k : ℕ) → body (it .rows) (it .cols - 1) n t ≡ malformed k → printed (bodies (drop i es) n t) ≡ refusalText k
+  pub next-bad : (k : ℕ) → body (it .rows) (it .cols - 1) n t ≡ malformed k → printed (bodies (drop i es) n t) ≡ malformedText k
   unfolding bodies printed surveysText
   next-bad k e = rw (drop-cons es i zeros h, bodies, e)
 
@@ -127,10 +127,10 @@ module _ (es : List Entry) (i n : ℕ) (t : Bytes) (h : i < length es) where
   next-got xs n₁ t₁ e = rw (add-one i, drop-cons es i zeros h, bodies, e) (printed-first (surveyOf it xs) _ _)
 
 pub end-whole : (es : List Entry) (i n : ℕ) (t : Bytes) (p : ℕ) → i ≡ length es → p ≡ length t → printed (bodies (drop i es) n (drop p t)) ≡ []
-unfolding bodies printed surveysText refusalText
+unfolding bodies printed surveysText malformedText
 end-whole es i n t p e f = rw (e, f, drop-length, drop-length)
 
-pub end-extra : (es : List Entry) (i n : ℕ) (t : Bytes) (p : ℕ) → i ≡ length es → p < length t → printed (bodies (drop i es) n (drop p t)) ≡ refusalText n
+pub end-extra : (es : List Entry) (i n : ℕ) (t : Bytes) (p : ℕ) → i ≡ length es → p < length t → printed (bodies (drop i es) n (drop p t)) ≡ malformedText n
 unfolding bodies printed surveysText
 end-extra es i n t p e f = rw (e, drop-length, drop-cons t p 0 f)
 
@@ -158,7 +158,7 @@ module _ (t : Bytes) (es : List Entry) (count i n p : ℕ) (h : i < count) (l : 
 
   module _ (m m₁ : List Float) (b : Place) (w : length m ≡ 2304) (e : Entry) (is : e ≡ getD es i zeros)
       (k : placed b t m₁ ≡ bodyStored (e .rows) (e .cols - 1) n (drop p t) m 0) where
-    pub turn-bad : b .ok ≡ false → left t es count i n p ≡ refusalText (b .line)
+    pub turn-bad : b .ok ≡ false → left t es count i n p ≡ malformedText (b .line)
     unfolding left placed
     turn-bad o =
         let q : malformed (b .line) ≡ bodyStored (e .rows) (e .cols - 1) n (drop p t) m 0 = rw (placed, o) at k in
@@ -191,7 +191,7 @@ area e r =
 
 -- where the loop begins
 module _ (t : Bytes) (h : Head) (e : headed h t ≡ head 1 t) where
-  pub begin-bad : h .count ≡ 0 → split t ≡ refusalText (h .line)
+  pub begin-bad : h .count ≡ 0 → split t ≡ malformedText (h .line)
   unfolding headed
   begin-bad z = let q : malformed (h .line) ≡ head 1 t = rw (headed, eq-eqb (h .count) 0 z) at e in split-bad t (h .line) q
 
@@ -207,6 +207,6 @@ module _ (t : Bytes) (es : List Entry) (count i n p : ℕ) (h : i ≡ count) (l 
   unfolding left
   done-whole g = end-whole (take count es) i n t p (rw length-take-le h) g
 
-  pub done-extra : p < length t → left t es count i n p ≡ refusalText n
+  pub done-extra : p < length t → left t es count i n p ≡ malformedText n
   unfolding left
   done-extra g = end-extra (take count es) i n t p (rw length-take-le h) g

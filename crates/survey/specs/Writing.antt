@@ -13,7 +13,7 @@ use Rattle.method.specs.Outcome.{Outcome}
 use Rattle.text.specs.Text.{Bytes, LF, space, digits, shown, ending, lineText, leaves, putAt}
 use Rattle.text.specs.Writing.{Wrote, wrote}
 use Rattle.text.specs.Digits.{length-digits}
-use Rattle.survey.specs.Print.{hex, rowText, rowsText, refusedWord, reportText, refusedText, outcomeText, refusalText}
+use Rattle.survey.specs.Print.{hex, rowText, rowsText, refusedWord, reportText, refusedText, outcomeText, malformedText}
 
 pub length-hex : (x : Float) → length (hex x) ≡ 16
 unfolding hex
@@ -115,9 +115,9 @@ rows-only (suc r) c xs ys h =
 
 -- ---- the other lines
 
-pub refusal-is : (n : ℕ) → 0 < n → refusalText n ≡ lineText (refusedWord ∷ shown 9 ∷ shown n ∷ [])
-unfolding refusalText
-refusal-is n h = rw (refusalText, ne-eqb n 0 (λ z. omega arith))
+pub malformed-is : (n : ℕ) → 0 < n → malformedText n ≡ lineText (refusedWord ∷ shown 9 ∷ shown n ∷ [])
+unfolding malformedText
+malformed-is n h = rw (malformedText, ne-eqb n 0 (λ z. omega arith))
 
 module _ (id rows cols : ℕ) (o : Outcome) where
   pub outcome-accepted :

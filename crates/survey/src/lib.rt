@@ -16,8 +16,8 @@ ghost use Rattle.survey.specs.Answers.{Promised, InputPromised};
 use crate::reading::Entry;
 use crate::reading::body;
 use crate::reading::contents;
+use crate::writing::put_malformed;
 use crate::writing::put_outcome;
-use crate::writing::put_refusal;
 use checks::settings::Settings;
 use svd::report::Report;
 
@@ -65,7 +65,7 @@ pub fn split_text(text: &[u8], out: &mut [u8; ROOM]) -> usize
     let mut line = h.line;
     let mut p = h.at;
     if count == 0 {
-        return put_refusal(out, 0, line);
+        return put_malformed(out, 0, line);
     }
     let mut m = [0.0; 2304];
     let mut q = 0;
@@ -81,11 +81,11 @@ pub fn split_text(text: &[u8], out: &mut [u8; ROOM]) -> usize
             line = b.line;
             i += 1;
         } else {
-            return put_refusal(out, q, b.line);
+            return put_malformed(out, q, b.line);
         }
     }
     if p < text.len() {
-        return put_refusal(out, q, line);
+        return put_malformed(out, q, line);
     }
     q
 }

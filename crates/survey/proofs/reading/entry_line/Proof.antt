@@ -38,31 +38,31 @@ slice-aggregate-whole c =
 
 returns-3 : tie.Need-returns-3
 returns-3 c =
-    let e2 = c .before .before .before in
-    let e1 = e2 .before .before in
-    let f1 = e1 .before .find .ensures .0 in
-    let f2 = e2 .before .find2 .ensures .0 in
-    entry-id _ _ _ f1 (first e1) _ f2 (second e2) _ (c .before .whole .ensures) (c .if3 .taken)
+    let past-second = c .before .before .before in
+    let past-first = past-second .before .before in
+    let found-first = past-first .before .find .ensures .0 in
+    let found-second = past-second .before .find2 .ensures .0 in
+    entry-id _ _ _ found-first (first past-first) _ found-second (second past-second) _ (c .before .whole .ensures) (c .if3 .taken)
 
 returns-4 : tie.Need-returns-4
 returns-4 c =
     let at-whole = c .before .before .before .before in
-    let e2 = c .before .before .before .before .before .before in
-    let e1 = e2 .before .before in
-    let f1 = e1 .before .find .ensures .0 in
-    let f2 = e2 .before .find2 .ensures .0 in
-    entry-rows _ _ _ f1 (first e1) _ f2 (second e2) _ (at-whole .whole .ensures) (c .before .before .before .if3 .left) _ (c .before .whole2 .ensures) (c .if4 .taken)
+    let past-second = c .before .before .before .before .before .before in
+    let past-first = past-second .before .before in
+    let found-first = past-first .before .find .ensures .0 in
+    let found-second = past-second .before .find2 .ensures .0 in
+    entry-rows _ _ _ found-first (first past-first) _ found-second (second past-second) _ (at-whole .whole .ensures) (c .before .before .before .if3 .left) _ (c .before .whole2 .ensures) (c .if4 .taken)
 
 returns-5 : tie.Need-returns-5
 returns-5 c =
     let at-whole2 = c .before .before .before .before in
     let at-if3 = at-whole2 .before .before in
     let at-whole = at-if3 .before in
-    let e2 = c .before .before .before .before .before .before .before .before .before in
-    let e1 = e2 .before .before in
-    let f1 = e1 .before .find .ensures .0 in
-    let f2 = e2 .before .find2 .ensures .0 in
-    entry-cols _ _ _ f1 (first e1) _ f2 (second e2) _ (at-whole .whole .ensures) (at-if3 .if3 .left) _ (at-whole2 .whole2 .ensures) (c .before .before .before .if4 .left)
+    let past-second = c .before .before .before .before .before .before .before .before .before in
+    let past-first = past-second .before .before in
+    let found-first = past-first .before .find .ensures .0 in
+    let found-second = past-second .before .find2 .ensures .0 in
+    entry-cols _ _ _ found-first (first past-first) _ found-second (second past-second) _ (at-whole .whole .ensures) (at-if3 .if3 .left) _ (at-whole2 .whole2 .ensures) (c .before .before .before .if4 .left)
     _ (c .before .whole3 .ensures) (c .if5 .taken)
 
 returns-6 : tie.Need-returns-6
@@ -71,11 +71,11 @@ returns-6 c =
     let at-whole2 = at-if4 .before in
     let at-if3 = at-whole2 .before .before in
     let at-whole = at-if3 .before in
-    let e2 = c .before .before .before .before .before .before .before .before .before .before .before in
-    let e1 = e2 .before .before in
-    let f1 = e1 .before .find .ensures .0 in
-    let f2 = e2 .before .find2 .ensures .0 in
-    entry-twice _ _ _ f1 (first e1) _ f2 (second e2) _ (at-whole .whole .ensures) (at-if3 .if3 .left) _ (at-whole2 .whole2 .ensures) (at-if4 .if4 .left)
+    let past-second = c .before .before .before .before .before .before .before .before .before .before .before in
+    let past-first = past-second .before .before in
+    let found-first = past-first .before .find .ensures .0 in
+    let found-second = past-second .before .find2 .ensures .0 in
+    entry-twice _ _ _ found-first (first past-first) _ found-second (second past-second) _ (at-whole .whole .ensures) (at-if3 .if3 .left) _ (at-whole2 .whole2 .ensures) (at-if4 .if4 .left)
     _ (c .before .before .before .whole3 .ensures) (c .before .before .if5 .left) (sym (c .before .named .ensures) ∙ c .if6 .taken)
 
 returns-7 : tie.Need-returns-7
@@ -84,11 +84,11 @@ returns-7 c =
     let at-whole2 = at-if4 .before in
     let at-if3 = at-whole2 .before .before in
     let at-whole = at-if3 .before in
-    let e2 = c .before .before .before .before .before .before .before .before .before .before .before in
-    let e1 = e2 .before .before in
-    let f1 = e1 .before .find .ensures .0 in
-    let f2 = e2 .before .find2 .ensures .0 in
-    entry-new _ _ _ f1 (first e1) _ f2 (second e2) _ (at-whole .whole .ensures) (at-if3 .if3 .left) _ (at-whole2 .whole2 .ensures) (at-if4 .if4 .left)
+    let past-second = c .before .before .before .before .before .before .before .before .before .before .before in
+    let past-first = past-second .before .before in
+    let found-first = past-first .before .find .ensures .0 in
+    let found-second = past-second .before .find2 .ensures .0 in
+    entry-new _ _ _ found-first (first past-first) _ found-second (second past-second) _ (at-whole .whole .ensures) (at-if3 .if3 .left) _ (at-whole2 .whole2 .ensures) (at-if4 .if4 .left)
     _ (c .before .before .before .whole3 .ensures) (c .before .before .if5 .left) (sym (c .before .named .ensures) ∙ c .if6 .left)
 
 pub entry-line-spec : {M : Type 1} → statement M
