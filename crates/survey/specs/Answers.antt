@@ -17,8 +17,8 @@ use Rattle.survey.specs.Prefix.{split-prefix}
 abbrev pub Promised : Bytes → Bytes → Bytes → ℕ → Type 0
 Promised t out o r = Written out 0 (split t) o r × (r ≤ room)
 
--- of the bytes s that were read, and of every input that begins with them, where either they are all of it or they are as
--- many as settle what is printed
+-- of the bytes s that were read, and of every input that begins with them, where either they are all of it or they are
+-- as many as settle what is printed
 abbrev pub InputPromised : Bytes → Bytes → Bytes → ℕ → Type 0
 InputPromised s out o r = Promised s out o r × ((t : Bytes) → take enough t ≡ s → Promised t out o r)
 
@@ -32,7 +32,8 @@ input-promised p = (p, λ t e. rw (split-prefix t, e) p)
 pub split-one : (t out o o′ : Bytes) (r r′ : ℕ) → Promised t out o r → Promised t out o′ r′ → (r ≡ r′) × (o ≡ o′)
 split-one t out o o′ r r′ x y = (x .0 .ends ∙ sym (y .0 .ends), x .0 .stored ∙ sym (y .0 .stored))
 
-pub input-one : (s out o o′ : Bytes) (r r′ : ℕ) → InputPromised s out o r → InputPromised s out o′ r′ → (r ≡ r′) × (o ≡ o′)
+pub input-one : (s out o o′ : Bytes) (r r′ : ℕ) → InputPromised s out o r → InputPromised s out o′ r′
+    → (r ≡ r′) × (o ≡ o′)
 input-one s out o o′ r r′ x y = split-one s out o o′ r r′ (x .0) (y .0)
 
 -- ---- what the lent slice holds then

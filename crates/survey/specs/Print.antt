@@ -1,5 +1,5 @@
--- What `split` prints of any bytes: each survey that is complete before the first malformed line, by the plain call's outcome at default settings, and
--- then that line's number. Definitions only.
+-- What `split` prints of any bytes: each survey that is complete before the first malformed line, by the plain call's
+-- outcome at default settings, and then that line's number. Definitions only.
 use mathlib.Core.Bool.{true, false}
 use mathlib.Core.List.{List, [], _∷_, _++_, map}
 use Prim.Native.Nat.{ℕ, zero, suc}
@@ -62,7 +62,9 @@ outcomeText id rows cols o =
     ]
 
 unfoldable pub surveyText : Survey → Bytes
-surveyText s = outcomeText (s .entry .id) (s .entry .rows) (s .entry .cols) (plainOutcome binary64 (s .entry .rows) (s .entry .cols) defaults (s .readings))
+surveyText s =
+    let e = s .entry in
+    outcomeText (e .id) (e .rows) (e .cols) (plainOutcome binary64 (e .rows) (e .cols) defaults (s .readings))
 
 -- ---- the whole
 

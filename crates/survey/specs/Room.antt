@@ -1,4 +1,5 @@
--- What is printed of any bytes fits 314,000: at most 8 surveys of at most 39,216 bytes each, and a refusal. Assumes nothing.
+-- What is printed of any bytes fits 314,000: at most 8 surveys of at most 39,216 bytes each, and a refusal. Assumes
+-- nothing.
 use mathlib.Core.Path.{_≡_, refl}
 use mathlib.Core.Bool.{Bool, true, false}
 use mathlib.Core.Option.{Option, none, some}
@@ -91,7 +92,8 @@ one-line : {A : Type 0} (rule : Bytes → Option A) (n : ℕ) (t : Bytes) → li
 unfolding lineOf line
 one-line {A} rule n t = go (cut LF t) refl
   where
-    mid : (p : Bytes × Bytes) (o : Option A) → cut LF t ≡ some p → (short (p .0) >>= rule) ≡ o → lineOf (line rule n t) ≤ n + 1
+    mid : (p : Bytes × Bytes) (o : Option A) → cut LF t ≡ some p → (short (p .0) >>= rule) ≡ o
+        → lineOf (line rule n t) ≤ n + 1
     mid p none e f = rw (line, e, f) (omega arith)
     mid p (some a) e f = rw (line, e, f) (omega arith)
 
@@ -118,14 +120,16 @@ unfolding lineOf contents andThen
 contents-lines zero es n t = omega arith
 contents-lines (suc k) es n t = go (line (entryLine es) n t) (one-line (entryLine es) n t) (λ x m s. contents-lines k (es ++ (x ∷ [])) m s)
   where
-    go : (g : Got Entry) → lineOf g ≤ n + 1 → ((x : Entry) (m : ℕ) (s : Bytes) → lineOf (contents k (es ++ (x ∷ [])) m s) ≤ m + k)
+    go : (g : Got Entry) → lineOf g ≤ n + 1
+        → ((x : Entry) (m : ℕ) (s : Bytes) → lineOf (contents k (es ++ (x ∷ [])) m s) ≤ m + k)
         → lineOf (andThen g (λ x. contents k (es ++ (x ∷ [])))) ≤ n + suc k
     go (malformed m) h ih = omega arith
     go (got x m s) h ih = omega (arith, ih x m s)
 
 -- ---- the whole
 
-bodies-most : (es : List Entry) (n : ℕ) (t : Bytes) → All es → n + 48 * length es < 1000000 → length (printed (bodies es n t)) ≤ 39216 * length es + 24
+bodies-most : (es : List Entry) (n : ℕ) (t : Bytes) → All es → n + 48 * length es < 1000000
+    → length (printed (bodies es n t)) ≤ 39216 * length es + 24
 unfolding bodies printed surveysText lineOf
 bodies-most [] n [] a h = omega (arith, malformed-most 0 (omega arith))
 bodies-most [] n (b ∷ t) a h = omega (arith, malformed-most n (omega arith))
@@ -154,7 +158,8 @@ split-most t = go (line countLine 1 t) refl (one-line countLine 1 t)
     bad : (m : ℕ) → m < 1000000 → head 1 t ≡ malformed m → length (printed (reading t)) ≤ room
     bad m h e = rw (reading, e) (omega (arith, malformed-most m h))
 
-    mid : (k n : ℕ) (s : Bytes) (g : Got (List Entry)) → line countLine 1 t ≡ got k n s → contents k [] n s ≡ g → n ≤ 2 → k ≤ 8 → lineOf g ≤ n + k → length (printed (reading t)) ≤ room
+    mid : (k n : ℕ) (s : Bytes) (g : Got (List Entry)) → line countLine 1 t ≡ got k n s → contents k [] n s ≡ g → n ≤ 2
+        → k ≤ 8 → lineOf g ≤ n + k → length (printed (reading t)) ≤ room
     mid k n s (malformed m) e f h i j = let d : head 1 t ≡ malformed m = rw (e, f) in bad m (omega arith) d
     mid k n s (got es n₁ t₁) e f h i j =
         let d : head 1 t ≡ got es n₁ t₁ = rw (e, f) in

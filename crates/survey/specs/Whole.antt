@@ -43,7 +43,8 @@ all-at [] i a h = absurd (omega arith)
 all-at (e ∷ es) zero a h = a .0
 all-at (e ∷ es) (suc i) a h = all-at es i (a .1) (omega arith)
 
-pub contents-all : (k : ℕ) (es : List Entry) (n : ℕ) (t : Bytes) (es₁ : List Entry) (n₁ : ℕ) (t₁ : Bytes) → contents k es n t ≡ got es₁ n₁ t₁ → All es → All es₁
+pub contents-all : (k : ℕ) (es : List Entry) (n : ℕ) (t : Bytes) (es₁ : List Entry) (n₁ : ℕ) (t₁ : Bytes)
+    → contents k es n t ≡ got es₁ n₁ t₁ → All es → All es₁
 unfolding contents andThen
 contents-all zero es n t es₁ n₁ t₁ e a = let q : es ≡ es₁ = cc in subst All q a
 contents-all (suc k) es n t es₁ n₁ t₁ e a =
@@ -59,7 +60,8 @@ head-all t es n t₁ e =
 
 -- ---- a body has as many readings as it should
 
-pub body-length : (r c n : ℕ) (t : Bytes) (xs : List Float) (n₁ : ℕ) (t₁ : Bytes) → body r c n t ≡ got xs n₁ t₁ → length xs ≡ r * (c + 1)
+pub body-length : (r c n : ℕ) (t : Bytes) (xs : List Float) (n₁ : ℕ) (t₁ : Bytes) → body r c n t ≡ got xs n₁ t₁
+    → length xs ≡ r * (c + 1)
 unfolding body andThen
 body-length zero c n t xs n₁ t₁ e = let q : [] ≡ xs = cc in omega (arith, ap length q, zero-mul (c + 1))
 body-length (suc r) c n t xs n₁ t₁ e =
@@ -85,11 +87,13 @@ pub body-yes : (r c n : ℕ) (t : Bytes) (m m₁ : List Float) (n₁ : ℕ) (t�
 unfolding bodyStored andThen
 body-yes r c n t m m₁ n₁ t₁ e = go (body r c n t) refl
   where
-    go : (g : Got (List Float)) → body r c n t ≡ g → (xs : List Float) × (body r c n t ≡ got xs n₁ t₁) × (m₁ ≡ sets m 0 xs)
+    go : (g : Got (List Float)) → body r c n t ≡ g
+        → (xs : List Float) × (body r c n t ≡ got xs n₁ t₁) × (m₁ ≡ sets m 0 xs)
     go (malformed k) h = let q : got m₁ n₁ t₁ ≡ malformed k = rw h at e in absurd (let z : _≡_ {A = ℕ} 0 1 = cc in omega arith)
     go (got xs n₂ t₂) h = let q : got m₁ n₁ t₁ ≡ got (sets m 0 xs) n₂ t₂ = rw h at e in (xs, cc, cc)
 
-pub body-no : (r c n : ℕ) (t : Bytes) (m : List Float) (k : ℕ) → malformed k ≡ bodyStored r c n t m 0 → body r c n t ≡ malformed k
+pub body-no : (r c n : ℕ) (t : Bytes) (m : List Float) (k : ℕ) → malformed k ≡ bodyStored r c n t m 0
+    → body r c n t ≡ malformed k
 unfolding bodyStored andThen
 body-no r c n t m k e = go (body r c n t) refl
   where
@@ -109,7 +113,8 @@ pub split-bad : (t : Bytes) (m : ℕ) → malformed m ≡ head 1 t → split t �
 unfolding split reading printed surveysText
 split-bad t m e = rw (reading, ← e)
 
-pub split-got : (t : Bytes) (es : List Entry) (n : ℕ) (t₁ : Bytes) → got es n t₁ ≡ head 1 t → split t ≡ printed (bodies es n t₁)
+pub split-got : (t : Bytes) (es : List Entry) (n : ℕ) (t₁ : Bytes) → got es n t₁ ≡ head 1 t
+    → split t ≡ printed (bodies es n t₁)
 unfolding split reading
 split-got t es n t₁ e = rw (reading, ← e)
 
@@ -117,7 +122,8 @@ module _ (es : List Entry) (i n : ℕ) (t : Bytes) (h : i < length es) where
   abbrev it : Entry
   it = getD es i zeros
 
-  pub next-bad : (k : ℕ) → body (it .rows) (it .cols - 1) n t ≡ malformed k → printed (bodies (drop i es) n t) ≡ malformedText k
+  pub next-bad : (k : ℕ) → body (it .rows) (it .cols - 1) n t ≡ malformed k
+      → printed (bodies (drop i es) n t) ≡ malformedText k
   unfolding bodies printed surveysText
   next-bad k e = rw (drop-cons es i zeros h, bodies, e)
 
@@ -126,11 +132,13 @@ module _ (es : List Entry) (i n : ℕ) (t : Bytes) (h : i < length es) where
   unfolding bodies
   next-got xs n₁ t₁ e = rw (add-one i, drop-cons es i zeros h, bodies, e) (printed-first (surveyOf it xs) _ _)
 
-pub end-whole : (es : List Entry) (i n : ℕ) (t : Bytes) (p : ℕ) → i ≡ length es → p ≡ length t → printed (bodies (drop i es) n (drop p t)) ≡ []
+pub end-whole : (es : List Entry) (i n : ℕ) (t : Bytes) (p : ℕ) → i ≡ length es → p ≡ length t
+    → printed (bodies (drop i es) n (drop p t)) ≡ []
 unfolding bodies printed surveysText malformedText
 end-whole es i n t p e f = rw (e, f, drop-length, drop-length)
 
-pub end-extra : (es : List Entry) (i n : ℕ) (t : Bytes) (p : ℕ) → i ≡ length es → p < length t → printed (bodies (drop i es) n (drop p t)) ≡ malformedText n
+pub end-extra : (es : List Entry) (i n : ℕ) (t : Bytes) (p : ℕ) → i ≡ length es → p < length t
+    → printed (bodies (drop i es) n (drop p t)) ≡ malformedText n
 unfolding bodies printed surveysText
 end-extra es i n t p e f = rw (e, drop-length, drop-cons t p 0 f)
 
@@ -165,7 +173,8 @@ module _ (t : Bytes) (es : List Entry) (count i n p : ℕ) (h : i < count) (l : 
         let j : e ≡ getD (take count es) i zeros = rw same is in
         next-bad (take count es) i n (drop p t) inside (b .line) (rw (← j) (body-no (e .rows) (e .cols - 1) n (drop p t) m (b .line) q))
 
-    pub turn-got : b .ok ≡ true → (left t es count i n p ≡ surveyText (surveyOf e (take (e .rows * e .cols) m₁)) ++ left t es count (i + 1) (b .line) (b .at)) × (length m₁ ≡ 2304)
+    pub turn-got : b .ok ≡ true
+        → (left t es count i n p ≡ surveyText (surveyOf e (take (e .rows * e .cols) m₁)) ++ left t es count (i + 1) (b .line) (b .at)) × (length m₁ ≡ 2304)
     unfolding left placed
     turn-got o =
         let q : got m₁ (b .line) (drop (b .at) t) ≡ bodyStored (e .rows) (e .cols - 1) n (drop p t) m 0 = rw (placed, o) at k in
@@ -173,7 +182,8 @@ module _ (t : Bytes) (es : List Entry) (count i n p : ℕ) (h : i < count) (l : 
         let y = body-yes (e .rows) (e .cols - 1) n (drop p t) m m₁ (b .line) (drop (b .at) t) q in
         more (y .0) j (y .1) (y .2)
       where
-        more : (xs : List Float) → e ≡ getD (take count es) i zeros → body (e .rows) (e .cols - 1) n (drop p t) ≡ got xs (b .line) (drop (b .at) t) → m₁ ≡ sets m 0 xs
+        more : (xs : List Float) → e ≡ getD (take count es) i zeros
+            → body (e .rows) (e .cols - 1) n (drop p t) ≡ got xs (b .line) (drop (b .at) t) → m₁ ≡ sets m 0 xs
             → (printed (bodies (drop i (take count es)) n (drop p t)) ≡ surveyText (surveyOf e (take (e .rows * e .cols) m₁)) ++ printed (bodies (drop (i + 1) (take count es)) (b .line) (drop (b .at) t))) × (length m₁ ≡ 2304)
         more xs j x y =
             let r : InRange e = rw is range in
@@ -195,7 +205,8 @@ module _ (t : Bytes) (h : Head) (e : headed h t ≡ head 1 t) where
   unfolding headed
   begin-bad z = let q : malformed (h .line) ≡ head 1 t = rw (headed, eq-eqb (h .count) 0 z) at e in split-bad t (h .line) q
 
-  pub begin-got : 0 < h .count → (All (take (h .count) (h .es))) × (left t (h .es) (h .count) 0 (h .line) (h .at) ≡ split t)
+  pub begin-got : 0 < h .count
+      → (All (take (h .count) (h .es))) × (left t (h .es) (h .count) 0 (h .line) (h .at) ≡ split t)
   unfolding left
   begin-got z =
       let q : got (take (h .count) (h .es)) (h .line) (drop (h .at) t) ≡ head 1 t = sym (headed-got h t z) ∙ e in

@@ -78,7 +78,8 @@ module _ {A : Type 0} where
   sets-append (d ∷ ds) es l at = sets-append ds es (set l at d) (suc at) ∙ ap (λ (k : ℕ). sets (sets (set l at d) (suc at) ds) k es) (omega arith)
 
 pub digits-next : (out : Bytes) (at base j n : ℕ) → 0 < j
-    → sets out at (digits base j n) ≡ sets (set out (at + (j - 1)) (digit (n % base))) at (digits base (j - 1) (n / base))
+    → sets out at (digits base j n)
+    ≡ sets (set out (at + (j - 1)) (digit (n % base))) at (digits base (j - 1) (n / base))
 unfolding digits
 digits-next out at base zero n h = absurd (let z : 0 < 0 = h in omega arith)
 digits-next out at base (suc k) n h =

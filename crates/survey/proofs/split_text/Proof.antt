@@ -1,5 +1,6 @@
--- `survey::split_text` meets its contract. The loop's invariant: whatever writes what is still to be printed of the surveys from i on, at q, has then
--- written the whole; and each survey has at most 48 lines. The whole has room. The measure is how many surveys are left. Assumes nothing.
+-- `survey::split_text` meets its contract: whatever writes what is still to be printed of the surveys from i on, at q, has
+-- then written the whole, and the whole has room; each survey has at most 48 lines; the measure is how many surveys are
+-- left. Assumes nothing.
 use mathlib.Core.Path.{_≡_, refl, sym, _∙_}
 use mathlib.Core.List.{List, _++_}
 use Prim.Native.Nat.{ℕ, _+_, _-_, _*_, _<_, _≤_}
