@@ -85,7 +85,8 @@ body-stored (suc r) c n t m at = go (line (rowLine c) n t) refl (λ n₁ t₁ m�
     tail xs h (got ys n₂ t₂) = ap (λ (z : List Float). got z n₂ t₂) (sym (sets-append xs ys m at ∙ ap (λ (z : ℕ). sets (sets m at xs) (at + z) ys) h))
 
     go : (g : Got (List Float)) → line (rowLine c) n t ≡ g
-        → ((n₁ : ℕ) (t₁ : Bytes) (m₁ : List Float) → bodyInto r c n₁ t₁ m₁ (at + (c + 1)) ≡ bodyStored r c n₁ t₁ m₁ (at + (c + 1)))
+        → ((n₁ : ℕ) (t₁ : Bytes) (m₁ : List Float)
+        → bodyInto r c n₁ t₁ m₁ (at + (c + 1)) ≡ bodyStored r c n₁ t₁ m₁ (at + (c + 1)))
         → andThen g (λ xs n₁ t₁. bodyInto r c n₁ t₁ (sets m at xs) (at + (c + 1)))
         ≡ andThen (andThen g (λ xs n₁ t₁. andThen (body r c n₁ t₁) λ ys. got (xs ++ ys))) (λ zs. got (sets m at zs))
     go (malformed k) h ih = refl
@@ -94,7 +95,8 @@ body-stored (suc r) c n t m at = go (line (rowLine c) n t) refl (λ n₁ t₁ m�
         ih n₁ t₁ (sets m at xs) ∙ tail xs (row-length c (q .0) xs (q .1)) (body r c n₁ t₁)
 
 -- a turn of the code's loop, j rows done
-module _ (rows c n j : ℕ) (t : Bytes) (p e : ℕ) (m : List Float) (k : ℕ) (f : e ≡ found LF p t) (h : j < rows) (w : c < 48) where
+module _ (rows c n j : ℕ) (t : Bytes) (p e : ℕ) (m : List Float) (k : ℕ)
+    (f : e ≡ found LF p t) (h : j < rows) (w : c < 48) where
   less : rows - j ≡ suc (rows - (j + 1))
   less = omega arith
 

@@ -1,6 +1,6 @@
 -- Laws of the lines, as the proofs of the code use them. Assumes nothing.
 use mathlib.Core.Path.{_≡_, refl, _∙_}
-use mathlib.Core.Bool.{true, false, not}
+use mathlib.Core.Bool.{Bool, true, false, not}
 use mathlib.Core.Option.{Option, none, some}
 use mathlib.Core.List.{List, [], _∷_}
 use Prim.Native.Nat.{ℕ, zero, suc, _+_, _-_, _<_, _≤_}
@@ -155,10 +155,7 @@ module _ (es : List Entry) (l : Bytes) (a : ℕ) (fa : a ≡ found space 0 l) wh
               number-pos 48 (drop (b + 1) l) k last .1 gk,
             )
 
-            pub entry-twice : named i es ≡ true → zeros ≡ orNone (entryLine es l)
-            unfolding when
-            entry-twice g = rw (read, g)
-
-            pub entry-new : named i es ≡ false → record { id = i; rows = r; cols = k } ≡ orNone (entryLine es l)
-            unfolding when
-            entry-new g = rw (read, g)
+            -- the last two ways out: x says whether the id is an earlier entry's
+            pub entry-last : (x : Bool) → x ≡ named i es
+                → orNone (when (not x) (record { id = i; rows = r; cols = k })) ≡ orNone (entryLine es l)
+            entry-last x e = rw (read, e)

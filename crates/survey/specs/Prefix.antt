@@ -117,7 +117,8 @@ contents-further zero es n s z h = refl
 contents-further (suc k) es n s z h = rw (line-further (entryLine es) n s z (omega arith)) (go (line (entryLine es) n s) refl (λ e m t. contents-further k (es ++ (e ∷ [])) m t z))
   where
     go : (g : Got Entry) → line (entryLine es) n s ≡ g
-        → ((e : Entry) (m : ℕ) (t : Bytes) → 816 * k ≤ length t → contents k (es ++ (e ∷ [])) m (t ++ z) ≡ further z (contents k (es ++ (e ∷ [])) m t))
+        → ((e : Entry) (m : ℕ) (t : Bytes) → 816 * k ≤ length t
+        → contents k (es ++ (e ∷ [])) m (t ++ z) ≡ further z (contents k (es ++ (e ∷ [])) m t))
         → andThen (further z g) (λ e. contents k (es ++ (e ∷ [])))
         ≡ further z (andThen g (λ e. contents k (es ++ (e ∷ []))))
     go (malformed m) e ih = refl
@@ -174,7 +175,8 @@ reading-further s z h = go (line countLine 1 s) refl
     mid k n t g e f = more g e f (line-size countLine 1 s k n t e)
       where
         more : (g : Got (List Entry)) → line countLine 1 s ≡ got k n t → contents k [] n t ≡ g
-            → (l : Bytes) × (countLine l ≡ some k) × (length s ≡ length l + 1 + length t) × (n ≡ 1 + 1) × (length l ≤ 815) → reading (s ++ z) ≡ reading s
+            → (l : Bytes) × (countLine l ≡ some k) × (length s ≡ length l + 1 + length t) × (n ≡ 1 + 1) × (length l ≤ 815)
+            → reading (s ++ z) ≡ reading s
         more g e f l =
             let i = number-range 8 (l .0) k (l .1) .1 in
             let c : contents k [] n (t ++ z) ≡ further z (contents k [] n t) = contents-further k [] n t z (omega (arith, l .2, l .4, i)) in

@@ -139,7 +139,8 @@ bodies-most (e ∷ es) n t a h = go (body (e .rows) (e .cols - 1) n t) refl (λ 
     lines = body-lines (e .rows) (e .cols - 1) n t
 
     go : (g : Got (List Float)) → body (e .rows) (e .cols - 1) n t ≡ g
-        → ((m : ℕ) (s : Bytes) → m + 48 * length es < 1000000 → length (printed (bodies es m s)) ≤ 39216 * length es + 24)
+        → ((m : ℕ) (s : Bytes) → m + 48 * length es < 1000000
+        → length (printed (bodies es m s)) ≤ 39216 * length es + 24)
         → length (printed (bodies (e ∷ es) n t)) ≤ 39216 * suc (length es) + 24
     go (malformed m) x ih =
         let k : m ≤ n + e .rows = rw x at lines in

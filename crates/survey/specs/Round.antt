@@ -208,7 +208,8 @@ unfolding entries
 entries-length [] = refl
 entries-length (s ∷ ss) = ap suc (entries-length ss)
 
-pub bodies-round : (ss : List Survey) (n : ℕ) → AllSound ss → bodies (entries ss) n (bodiesText ss) ≡ record { surveys = ss; malformedLine = 0 }
+pub bodies-round : (ss : List Survey) (n : ℕ) → AllSound ss
+    → bodies (entries ss) n (bodiesText ss) ≡ record { surveys = ss; malformedLine = 0 }
 unfolding bodies entries bodiesText
 bodies-round [] n a = refl
 bodies-round (s ∷ ss) n a =
@@ -227,7 +228,8 @@ count-line k t p q =
 
 -- A text that was written from one to eight sound surveys with different ids is read as these surveys, and no line of
 -- it is malformed.
-pub text-round : (ss : List Survey) → 0 < length ss → length ss ≤ 8 → AllSound ss → Fresh [] (entries ss) → reading (written ss) ≡ record { surveys = ss; malformedLine = 0 }
+pub text-round : (ss : List Survey) → 0 < length ss → length ss ≤ 8 → AllSound ss → Fresh [] (entries ss)
+    → reading (written ss) ≡ record { surveys = ss; malformedLine = 0 }
 unfolding reading written head andThen
 text-round ss p q a f =
     let t = contentsText (entries ss) ++ bodiesText ss in

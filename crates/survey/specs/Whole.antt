@@ -154,7 +154,8 @@ stored-first n m xs h g =
 unfoldable pub left : Bytes → List Entry → ℕ → ℕ → ℕ → ℕ → Bytes
 left t es count i n p = printed (bodies (drop i (take count es)) n (drop p t))
 
-module _ (t : Bytes) (es : List Entry) (count i n p : ℕ) (h : i < count) (l : count ≤ length es) (a : All (take count es)) where
+module _ (t : Bytes) (es : List Entry) (count i n p : ℕ) (h : i < count) (l : count ≤ length es)
+    (a : All (take count es)) where
   inside : i < length (take count es)
   inside = rw length-take-le h
 
@@ -174,7 +175,9 @@ module _ (t : Bytes) (es : List Entry) (count i n p : ℕ) (h : i < count) (l : 
         next-bad (take count es) i n (drop p t) inside (b .line) (rw (← j) (body-no (e .rows) (e .cols - 1) n (drop p t) m (b .line) q))
 
     pub turn-got : b .ok ≡ true
-        → (left t es count i n p ≡ surveyText (surveyOf e (take (e .rows * e .cols) m₁)) ++ left t es count (i + 1) (b .line) (b .at)) × (length m₁ ≡ 2304)
+        → (left t es count i n p
+        ≡ surveyText (surveyOf e (take (e .rows * e .cols) m₁)) ++ left t es count (i + 1) (b .line) (b .at))
+        × (length m₁ ≡ 2304)
     unfolding left placed
     turn-got o =
         let q : got m₁ (b .line) (drop (b .at) t) ≡ bodyStored (e .rows) (e .cols - 1) n (drop p t) m 0 = rw (placed, o) at k in
@@ -184,7 +187,9 @@ module _ (t : Bytes) (es : List Entry) (count i n p : ℕ) (h : i < count) (l : 
       where
         more : (xs : List Float) → e ≡ getD (take count es) i zeros
             → body (e .rows) (e .cols - 1) n (drop p t) ≡ got xs (b .line) (drop (b .at) t) → m₁ ≡ sets m 0 xs
-            → (printed (bodies (drop i (take count es)) n (drop p t)) ≡ surveyText (surveyOf e (take (e .rows * e .cols) m₁)) ++ printed (bodies (drop (i + 1) (take count es)) (b .line) (drop (b .at) t))) × (length m₁ ≡ 2304)
+            → (left t es count i n p
+            ≡ surveyText (surveyOf e (take (e .rows * e .cols) m₁)) ++ left t es count (i + 1) (b .line) (b .at))
+            × (length m₁ ≡ 2304)
         more xs j x y =
             let r : InRange e = rw is range in
             let z = survey-length e r n (drop p t) xs (b .line) (drop (b .at) t) x in
