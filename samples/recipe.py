@@ -1,9 +1,11 @@
 #!/usr/bin/env python3
 """Makes the sample tables of this folder. Each table's head says by which rule its numbers are made; this is that rule.
 
-    python3 samples/recipe.py        writes the five tables anew, the same bytes each time
+    python3 samples/recipe.py            writes the five tables anew, the same bytes each time
+    python3 samples/recipe.py longest    prints the longest survey text that is well formed
 """
 import pathlib
+import sys
 
 PLACE = pathlib.Path(__file__).resolve().parent
 RULE = """\
@@ -80,6 +82,22 @@ def fan_off():
           rule, readings(velocity, fan, 0.03))
 
 
-if __name__ == "__main__":
+def longest():
+    """The longest well-formed survey text, 313,442 bytes: eight surveys of 48 x 48 with ids of five digits."""
+    import tables
+    surveys = []
+    for k in range(8):
+        velocity = [1 + (5 * k + 7) * i % 23 / 10 for i in range(48)]
+        fan = [0.95 + (3 * j + k) % 11 / 100 for j in range(48)]
+        surveys.append(tables.Table(65528 + k))
+        for row in readings(velocity, fan, 0.01 * (k + 1)):
+            surveys[k].add(row)
+    surveys[3].rows[47][47] = float("nan")
+    return tables.to_text(surveys, None)
+
+
+if __name__ == "__main__" and sys.argv[1:] == ["longest"]:
+    print(longest(), end="")
+elif __name__ == "__main__":
     for make in (leaking_stopping, dead_air, bad_reading, fan_off):
         make()

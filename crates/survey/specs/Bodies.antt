@@ -29,7 +29,8 @@ module _ {A : Type 0} (rule : Bytes → Option A) (n : ℕ) (t : Bytes) (p e : �
     unfolding line
     line-bad g = rw (line, cut-some LF t p e f h, short-none rule (take (e - p) (drop p t)) g)
 
-    pub line-got : (a : A) → rule (take (e - p) (drop p t)) ≡ some a → length (take (e - p) (drop p t)) ≤ 815 → line rule n (drop p t) ≡ got a (n + 1) (drop (e + 1) t)
+    pub line-got : (a : A) → rule (take (e - p) (drop p t)) ≡ some a → length (take (e - p) (drop p t)) ≤ 815
+        → line rule n (drop p t) ≡ got a (n + 1) (drop (e + 1) t)
     unfolding line
     line-got a g s = rw (line, cut-some LF t p e f h, short-some rule (take (e - p) (drop p t)) a g s)
 
@@ -52,7 +53,8 @@ row-length (suc c) l xs e =
     rw (← z) (omega (arith, row-length c (p₁ .0 .1) (p₃ .0) (p₃ .1)))
 
 -- what `row_line` answers
-pub row-yes : (c : ℕ) (l : Bytes) (m m₁ : List Float) (at : ℕ) → some m₁ ≡ rowStored c l m at → (xs : List Float) × (rowLine c l ≡ some xs) × (m₁ ≡ sets m at xs)
+pub row-yes : (c : ℕ) (l : Bytes) (m m₁ : List Float) (at : ℕ) → some m₁ ≡ rowStored c l m at
+    → (xs : List Float) × (rowLine c l ≡ some xs) × (m₁ ≡ sets m at xs)
 unfolding rowStored _>>=_
 row-yes c l m m₁ at e = go (rowLine c l) refl
   where
@@ -77,12 +79,14 @@ body-stored zero c n t m at = refl
 body-stored (suc r) c n t m at = go (line (rowLine c) n t) refl (λ n₁ t₁ m₁. body-stored r c n₁ t₁ m₁ (at + (c + 1)))
   where
     tail : (xs : List Float) → length xs ≡ c + 1 → (g : Got (List Float))
-        → andThen g (λ ys. got (sets (sets m at xs) (at + (c + 1)) ys)) ≡ andThen (andThen g (λ ys. got (xs ++ ys))) (λ zs. got (sets m at zs))
+        → andThen g (λ ys. got (sets (sets m at xs) (at + (c + 1)) ys))
+        ≡ andThen (andThen g (λ ys. got (xs ++ ys))) (λ zs. got (sets m at zs))
     tail xs h (malformed k) = refl
     tail xs h (got ys n₂ t₂) = ap (λ (z : List Float). got z n₂ t₂) (sym (sets-append xs ys m at ∙ ap (λ (z : ℕ). sets (sets m at xs) (at + z) ys) h))
 
     go : (g : Got (List Float)) → line (rowLine c) n t ≡ g
-        → ((n₁ : ℕ) (t₁ : Bytes) (m₁ : List Float) → bodyInto r c n₁ t₁ m₁ (at + (c + 1)) ≡ bodyStored r c n₁ t₁ m₁ (at + (c + 1)))
+        → ((n₁ : ℕ) (t₁ : Bytes) (m₁ : List Float)
+        → bodyInto r c n₁ t₁ m₁ (at + (c + 1)) ≡ bodyStored r c n₁ t₁ m₁ (at + (c + 1)))
         → andThen g (λ xs n₁ t₁. bodyInto r c n₁ t₁ (sets m at xs) (at + (c + 1)))
         ≡ andThen (andThen g (λ xs n₁ t₁. andThen (body r c n₁ t₁) λ ys. got (xs ++ ys))) (λ zs. got (sets m at zs))
     go (malformed k) h ih = refl
@@ -91,7 +95,8 @@ body-stored (suc r) c n t m at = go (line (rowLine c) n t) refl (λ n₁ t₁ m�
         ih n₁ t₁ (sets m at xs) ∙ tail xs (row-length c (q .0) xs (q .1)) (body r c n₁ t₁)
 
 -- a turn of the code's loop, j rows done
-module _ (rows c n j : ℕ) (t : Bytes) (p e : ℕ) (m : List Float) (k : ℕ) (f : e ≡ found LF p t) (h : j < rows) (w : c < 48) where
+module _ (rows c n j : ℕ) (t : Bytes) (p e : ℕ) (m : List Float) (k : ℕ)
+    (f : e ≡ found LF p t) (h : j < rows) (w : c < 48) where
   less : rows - j ≡ suc (rows - (j + 1))
   less = omega arith
 
@@ -100,20 +105,24 @@ module _ (rows c n j : ℕ) (t : Bytes) (p e : ℕ) (m : List Float) (k : ℕ) (
   body-none g = rw (less, line-none (rowLine c) (n + j) t p e f g)
 
   module _ (g : e < length t) where
-    pub body-bad : none ≡ rowStored c (take (e - p) (drop p t)) m k → bodyInto (rows - j) c (n + j) (drop p t) m k ≡ malformed (n + j)
+    pub body-bad : none ≡ rowStored c (take (e - p) (drop p t)) m k
+        → bodyInto (rows - j) c (n + j) (drop p t) m k ≡ malformed (n + j)
     unfolding bodyInto andThen
     body-bad b = rw (less, line-bad (rowLine c) (n + j) t p e f g (row-no c (take (e - p) (drop p t)) m k b))
 
     pub body-next : (m₁ : List Float) → some m₁ ≡ rowStored c (take (e - p) (drop p t)) m k
-        → bodyInto (rows - j) c (n + j) (drop p t) m k ≡ bodyInto (rows - (j + 1)) c (n + (j + 1)) (drop (e + 1) t) m₁ (k + (c + 1))
+        → bodyInto (rows - j) c (n + j) (drop p t) m k
+        ≡ bodyInto (rows - (j + 1)) c (n + (j + 1)) (drop (e + 1) t) m₁ (k + (c + 1))
     unfolding bodyInto andThen
     body-next m₁ b = let q = row-yes c (take (e - p) (drop p t)) m m₁ k b in more (q .0) (q .1) (q .2)
       where
         more : (xs : List Float) → rowLine c (take (e - p) (drop p t)) ≡ some xs → m₁ ≡ sets m k xs
-            → bodyInto (rows - j) c (n + j) (drop p t) m k ≡ bodyInto (rows - (j + 1)) c (n + (j + 1)) (drop (e + 1) t) m₁ (k + (c + 1))
+            → bodyInto (rows - j) c (n + j) (drop p t) m k
+            ≡ bodyInto (rows - (j + 1)) c (n + (j + 1)) (drop (e + 1) t) m₁ (k + (c + 1))
         more xs x y = let z : n + j + 1 ≡ n + (j + 1) = omega arith in rw (y, less, line-got (rowLine c) (n + j) t p e f g xs x (row-short c (take (e - p) (drop p t)) xs w x), z)
 
-pub body-end : (rows c n j : ℕ) (t : Bytes) (m : List Float) (k : ℕ) → j ≡ rows → bodyInto (rows - j) c n t m k ≡ got m n t
+pub body-end : (rows c n j : ℕ) (t : Bytes) (m : List Float) (k : ℕ) → j ≡ rows
+    → bodyInto (rows - j) c n t m k ≡ got m n t
 unfolding bodyInto
 body-end rows c n j t m k e = let z : rows - rows ≡ 0 = omega arith in rw (e, z)
 

@@ -15,7 +15,7 @@ use Rattle.method.specs.Outcome.{accepted, outcome}
 use Rattle.method.specs.Defaults.{defaultTolerance, defaultAbsolute, defaultFloor}
 use Rattle.text.specs.Text.{Bytes, LF, space, _>>=_, when, cut, worth, value, decimal, number, pattern, digit, digits, placesBy, shown, ending, lineText}
 use Rattle.survey.specs.Form.{countLine, named, entryLine, rowLine, short, line, andThen, contents, head, body, bodies, reading}
-use Rattle.survey.specs.Print.{hex, rowText, rowsText, refusedWord, reportText, refusedText, outcomeText, surveyText, surveysText, refusalText, printed, split}
+use Rattle.survey.specs.Print.{hex, rowText, rowsText, refusedWord, reportText, refusedText, outcomeText, surveyText, surveysText, malformedText, printed, split}
 
 -- twelve zeros
 abbrev twelve : Bytes
@@ -32,10 +32,10 @@ answer =
     ++ (67 ∷ 48 ∷ 49 ∷ 52 ∷ []) ++ twelve ++ (LF ∷ 48 ∷ 48 ∷ 48 ∷ 48 ∷ []) ++ twelve ++ (LF ∷ [])
 
 pub example : split (unended ++ (LF ∷ [])) ≡ answer
-unfolding ofBits toBits neg add sub mul div lt eq isNan magnitude signOf smaller larger squareRoot go repeated rotationOf pairTurned rowsTurned columnsTurned lineCopied lineCleared timesFrom largestOf scaled squaresOf reflectionOf rowTimes tailLess rowLess rowReflected reflectedRight rowAdded rowsAdded columnSums rowLessAll rowLessTimes lowerLess rowsLess reflectedLeft columnMatrix rowMatrix factorReflected columnZeroed rowZeroed placesZeroed bidiagonal turned singular negligible steps swept pass run firstOf firstBad accepted outcome defaultTolerance defaultAbsolute defaultFloor _>>=_ when cut worth value decimal number pattern digit digits placesBy shown ending lineText countLine named entryLine rowLine short line andThen contents head body bodies reading hex rowText rowsText reportText refusedText outcomeText surveyText surveysText refusalText printed split
+unfolding ofBits toBits neg add sub mul div lt eq isNan magnitude signOf smaller larger squareRoot go repeated rotationOf pairTurned rowsTurned columnsTurned lineCopied lineCleared timesFrom largestOf scaled squaresOf reflectionOf rowTimes tailLess rowLess rowReflected reflectedRight rowAdded rowsAdded columnSums rowLessAll rowLessTimes lowerLess rowsLess reflectedLeft columnMatrix rowMatrix factorReflected columnZeroed rowZeroed placesZeroed bidiagonal turned singular negligible steps swept pass run firstOf firstBad accepted outcome defaultTolerance defaultAbsolute defaultFloor _>>=_ when cut worth value decimal number pattern digit digits placesBy shown ending lineText countLine named entryLine rowLine short line andThen contents head body bodies reading hex rowText rowsText reportText refusedText outcomeText surveyText surveysText malformedText printed split
 example = refl
 
 -- without the last LF line 4 is malformed, and nothing else is printed: refused 9 4
 pub example-unended : split unended ≡ refusedWord ++ (space ∷ 57 ∷ space ∷ 52 ∷ LF ∷ [])
-unfolding ofBits toBits neg add sub mul div lt eq isNan magnitude signOf smaller larger squareRoot go repeated rotationOf pairTurned rowsTurned columnsTurned lineCopied lineCleared timesFrom largestOf scaled squaresOf reflectionOf rowTimes tailLess rowLess rowReflected reflectedRight rowAdded rowsAdded columnSums rowLessAll rowLessTimes lowerLess rowsLess reflectedLeft columnMatrix rowMatrix factorReflected columnZeroed rowZeroed placesZeroed bidiagonal turned singular negligible steps swept pass run firstOf firstBad accepted outcome defaultTolerance defaultAbsolute defaultFloor _>>=_ when cut worth value decimal number pattern digit digits placesBy shown ending lineText countLine named entryLine rowLine short line andThen contents head body bodies reading hex rowText rowsText reportText refusedText outcomeText surveyText surveysText refusalText printed split
+unfolding ofBits toBits neg add sub mul div lt eq isNan magnitude signOf smaller larger squareRoot go repeated rotationOf pairTurned rowsTurned columnsTurned lineCopied lineCleared timesFrom largestOf scaled squaresOf reflectionOf rowTimes tailLess rowLess rowReflected reflectedRight rowAdded rowsAdded columnSums rowLessAll rowLessTimes lowerLess rowsLess reflectedLeft columnMatrix rowMatrix factorReflected columnZeroed rowZeroed placesZeroed bidiagonal turned singular negligible steps swept pass run firstOf firstBad accepted outcome defaultTolerance defaultAbsolute defaultFloor _>>=_ when cut worth value decimal number pattern digit digits placesBy shown ending lineText countLine named entryLine rowLine short line andThen contents head body bodies reading hex rowText rowsText reportText refusedText outcomeText surveyText surveysText malformedText printed split
 example-unended = refl

@@ -1,5 +1,5 @@
--- The survey text: its lines, and for any bytes the surveys that are complete before the first malformed line, with that line's number.
--- Definitions only.
+-- The survey text: its lines, and for any bytes the surveys that are complete before the first malformed line, with
+-- that line's number. Definitions only.
 use mathlib.Core.Bool.{Bool, true, false, not}
 use mathlib.Core.Option.{Option, none, some}
 use mathlib.Core.List.{List, [], _∷_, _++_}
@@ -21,7 +21,8 @@ unfoldable pub named : ℕ → List Entry → Bool
 named id [] = false
 named id (e ∷ es) = elim (eqb (e .id) id) [ true ↦ true | false ↦ named id es ]
 
--- a survey's line of the contents, after the entries es: an id that none of them has, from 1 to 65535, then rows and columns, each from 1 to 48
+-- a survey's line of the contents, after the entries es: an id that none of them has, from 1 to 65535, then rows and
+-- columns, each from 1 to 48
 unfoldable pub entryLine : List Entry → Bytes → Option Entry
 entryLine es l = do
   (a, l₁) ← cut space l
@@ -44,16 +45,22 @@ rowLine (suc n) l = do
 
 -- ---- line by line
 
--- What is read from line n on: it, the number of the next line and what is left; or the number of the first malformed line.
+-- What is read from line n on: it, the number of the next line and what is left; or the number of the first malformed
+-- line.
 pub data Got (A : Type 0) : Type 0 where
   malformed : ℕ → Got A
   got : A → ℕ → Bytes → Got A
 
--- the line itself, where it has at most 815 bytes
-unfoldable pub short : Bytes → Option Bytes
-short l = when (leb (length l) 815) l
+-- how many bytes a line has at most, before its LF
+abbrev pub mostLine : ℕ
+mostLine = 815
 
--- one line by its rule: malformed where the line is missing or has no LF, where it has more than 815 bytes, or where the rule refuses it
+-- the line itself, where it has no more
+unfoldable pub short : Bytes → Option Bytes
+short l = when (leb (length l) mostLine) l
+
+-- one line by its rule: malformed where the line is missing or has no LF, where it has more than 815 bytes, or where
+-- the rule refuses it
 unfoldable pub line : {A : Type 0} → (Bytes → Option A) → ℕ → Bytes → Got A
 line rule n t =
     elim (cut LF t) [

@@ -1,4 +1,5 @@
--- What was read, was read on the way: from a reading to its parts, and the ranges that its numbers are held to. Assumes nothing.
+-- What was read, was read on the way: from a reading to its parts, and the ranges that its numbers are held to. Assumes
+-- nothing.
 use mathlib.Core.Path.{_≡_, refl, subst}
 use mathlib.Core.Bool.{Bool, true, false, not}
 use mathlib.Core.Option.{Option, none, some}
@@ -10,7 +11,7 @@ use lib.Dec.{leb}
 use lib.ListN.{length}
 use Rattle.survey.specs.declared.reading.Entry.{Entry}
 use Rattle.text.specs.Text.{Bytes, space, _>>=_, when, cut, number}
-use Rattle.survey.specs.Form.{named, entryLine, short, Got, malformed, got, andThen}
+use Rattle.survey.specs.Form.{named, entryLine, mostLine, short, Got, malformed, got, andThen}
 use Rattle.text.specs.Options.{bind-some, when-some}
 use Rattle.text.specs.Numerals.{number-range}
 
@@ -42,29 +43,32 @@ entry-range es l e h =
     })
 
 -- a line that is short enough is read by its rule alone
-pub short-some : {A : Type 0} (rule : Bytes → Option A) (l : Bytes) (a : A) → rule l ≡ some a → length l ≤ 815 → (short l >>= rule) ≡ some a
+pub short-some : {A : Type 0} (rule : Bytes → Option A) (l : Bytes) (a : A) → rule l ≡ some a → length l ≤ 815
+    → (short l >>= rule) ≡ some a
 unfolding short when _>>=_
-short-some rule l a e h = rw (le-leb (length l) 815 h) e
+short-some rule l a e h = rw (le-leb (length l) mostLine (omega arith)) e
 
 -- and one that its rule refuses is refused, short or not
 pub short-none : {A : Type 0} (rule : Bytes → Option A) (l : Bytes) → rule l ≡ none → (short l >>= rule) ≡ none
 unfolding short when _>>=_
-short-none {A} rule l e = go (leb (length l) 815)
+short-none {A} rule l e = go (leb (length l) mostLine)
   where
     go : (b : Bool) → (when b l >>= rule) ≡ none
     go true = e
     go false = refl
 
 -- what a short line gave, its rule gave
-pub short-was : {A : Type 0} (rule : Bytes → Option A) (l : Bytes) (a : A) → (short l >>= rule) ≡ some a → (rule l ≡ some a) × (length l ≤ 815)
+pub short-was : {A : Type 0} (rule : Bytes → Option A) (l : Bytes) (a : A) → (short l >>= rule) ≡ some a
+    → (rule l ≡ some a) × (length l ≤ 815)
 unfolding short
 short-was rule l a e =
-    let p = bind-some (when (leb (length l) 815) l) rule a e in
-    let q = when-some (leb (length l) 815) l (p .0) (p .1) in
-    (rw (q .1) (p .2), leb-true (length l) 815 (q .0))
+    let p = bind-some (when (leb (length l) mostLine) l) rule a e in
+    let q = when-some (leb (length l) mostLine) l (p .0) (p .1) in
+    (rw (q .1) (p .2), omega (arith, leb-true (length l) mostLine (q .0)))
 
 -- what was read by two steps, the first of them read
-pub then-got : {A B : Type 0} (g : Got A) (f : A → ℕ → Bytes → Got B) (b : B) (n : ℕ) (t : Bytes) → andThen g f ≡ got b n t
+pub then-got : {A B : Type 0} (g : Got A) (f : A → ℕ → Bytes → Got B) (b : B) (n : ℕ) (t : Bytes)
+    → andThen g f ≡ got b n t
     → (a : A) × (n₁ : ℕ) × (t₁ : Bytes) × (g ≡ got a n₁ t₁) × (f a n₁ t₁ ≡ got b n t)
 unfolding andThen
 then-got (malformed k) f b n t e = absurd (let z : _≡_ {A = ℕ} 0 1 = cc in omega arith)

@@ -20,10 +20,12 @@ use Rattle.survey.specs.LineSize.{count-size, entry-size}
 use Rattle.survey.specs.Bodies.{line-none, line-bad, line-got}
 
 -- the code's entry of zeros says that there is none
-pub entry-known : (es : List Entry) (l : Bytes) (x : Entry) → x ≡ orNone (entryLine es l) → (x .id ≡ 0 → entryLine es l ≡ none) × ((x .id ≡ 0 → ⊥) → entryLine es l ≡ some x)
+pub entry-known : (es : List Entry) (l : Bytes) (x : Entry) → x ≡ orNone (entryLine es l)
+    → (x .id ≡ 0 → entryLine es l ≡ none) × ((x .id ≡ 0 → ⊥) → entryLine es l ≡ some x)
 entry-known es l x e = go (entryLine es l) refl
   where
-    go : (o : Option Entry) → entryLine es l ≡ o → (x .id ≡ 0 → entryLine es l ≡ none) × ((x .id ≡ 0 → ⊥) → entryLine es l ≡ some x)
+    go : (o : Option Entry) → entryLine es l ≡ o
+        → (x .id ≡ 0 → entryLine es l ≡ none) × ((x .id ≡ 0 → ⊥) → entryLine es l ≡ some x)
     go none h = ((λ z. h), (λ z. absurd (z (ap (λ (y : Entry). y .id) (rw h at e)))))
     go (some y) h =
         let q : x ≡ y = rw h at e in
@@ -45,7 +47,8 @@ module _ (count i : ℕ) (es : List Entry) (t : Bytes) (p e : ℕ) (f : e ≡ fo
     contents-bad b = rw (less, line-bad (entryLine (take i es)) (i + 2) t p e f g (entry-known (take i es) (take (e - p) (drop p t)) x k .0 b))
 
     pub contents-next : (x .id ≡ 0 → ⊥) → i < length es
-        → contents (count - i) (take i es) (i + 2) (drop p t) ≡ contents (count - (i + 1)) (take (i + 1) (set es i x)) (i + 1 + 2) (drop (e + 1) t)
+        → contents (count - i) (take i es) (i + 2) (drop p t)
+        ≡ contents (count - (i + 1)) (take (i + 1) (set es i x)) (i + 1 + 2) (drop (e + 1) t)
     unfolding contents andThen
     contents-next b n =
         let y : i + 2 + 1 ≡ i + 1 + 2 = omega arith in
@@ -54,7 +57,8 @@ module _ (count i : ℕ) (es : List Entry) (t : Bytes) (p e : ℕ) (f : e ≡ fo
         let s = entry-size (take i es) (take (e - p) (drop p t)) x w in
         rw (z, less, line-got (entryLine (take i es)) (i + 2) t p e f g x w (omega (arith, s)), y)
 
-pub contents-end : (count i n : ℕ) (es : List Entry) (t : Bytes) → i ≡ count → contents (count - i) (take i es) n t ≡ got (take count es) n t
+pub contents-end : (count i n : ℕ) (es : List Entry) (t : Bytes) → i ≡ count
+    → contents (count - i) (take i es) n t ≡ got (take count es) n t
 unfolding contents
 contents-end count i n es t e = let z : count - count ≡ 0 = omega arith in rw (e, z)
 
@@ -80,7 +84,8 @@ number-most most l x e = go (number most l) refl
     go none h = let q : x ≡ 0 = rw h at e in omega arith
     go (some n) h = let q : x ≡ n = rw h at e in omega (arith, number-range most l n h .1)
 
-pub headed-got : (r : Head) (t : Bytes) → 0 < r .count → headed r t ≡ got (take (r .count) (r .es)) (r .line) (drop (r .at) t)
+pub headed-got : (r : Head) (t : Bytes) → 0 < r .count
+    → headed r t ≡ got (take (r .count) (r .es)) (r .line) (drop (r .at) t)
 unfolding headed
 headed-got r t h = rw (headed, ne-eqb (r .count) 0 (λ z. omega arith))
 

@@ -1,5 +1,6 @@
 -- The survey text: its form, what `split` prints of it, and the laws.
 pub mod Form
+pub mod Sizes
 pub mod Print
 pub mod Code
 pub mod Lines
@@ -7,12 +8,13 @@ pub mod Found
 pub mod LineSize
 pub mod Bodies
 pub mod Heads
-pub mod Answer
+pub mod Verdict
 pub mod Writing
 pub mod Whole
 pub mod TextSize
 pub mod Room
 pub mod Prefix
 pub mod Round
-pub mod Told
+pub mod Answers
+pub mod Surveys
 pub mod Example

@@ -1,4 +1,5 @@
--- How many bytes the lines have: a count 1, an entry at most 11, a row 17 a reading less 1. So none has more than 815. Assumes nothing.
+-- How many bytes the lines have: a count 1, an entry at most 11, a row 17 a reading less 1. So none has more than 815.
+-- Assumes nothing.
 use mathlib.Core.Path.{_≡_, refl, ap, _∙_}
 use mathlib.Core.Option.{Option, none, some}
 use mathlib.Core.List.{List}
@@ -53,12 +54,14 @@ row-short c l xs h e = omega (arith, row-size c l xs e)
 -- ---- a line by its rule
 
 -- what a line gave, its rule gave, and it ended with its LF
-pub line-size : {A : Type 0} (rule : Bytes → Option A) (n : ℕ) (t : Bytes) (a : A) (n₁ : ℕ) (t₁ : Bytes) → line rule n t ≡ got a n₁ t₁
+pub line-size : {A : Type 0} (rule : Bytes → Option A) (n : ℕ) (t : Bytes) (a : A) (n₁ : ℕ) (t₁ : Bytes)
+    → line rule n t ≡ got a n₁ t₁
     → (l : Bytes) × (rule l ≡ some a) × (length t ≡ length l + 1 + length t₁) × (n₁ ≡ n + 1) × (length l ≤ 815)
 unfolding line
 line-size {A} rule n t a n₁ t₁ e = go (cut LF t) refl
   where
-    mid : (p : Bytes × Bytes) (o : Option A) → cut LF t ≡ some p → (short (p .0) >>= rule) ≡ o → (l : Bytes) × (rule l ≡ some a) × (length t ≡ length l + 1 + length t₁) × (n₁ ≡ n + 1) × (length l ≤ 815)
+    mid : (p : Bytes × Bytes) (o : Option A) → cut LF t ≡ some p → (short (p .0) >>= rule) ≡ o
+        → (l : Bytes) × (rule l ≡ some a) × (length t ≡ length l + 1 + length t₁) × (n₁ ≡ n + 1) × (length l ≤ 815)
     mid p none h k = let q : malformed n ≡ got a n₁ t₁ = rw (line, h, k) at e in absurd (let z : _≡_ {A = ℕ} 0 1 = cc in omega arith)
     mid p (some b) h k =
         let q : got b (n + 1) (p .1) ≡ got a n₁ t₁ = rw (line, h, k) at e in
@@ -67,6 +70,7 @@ line-size {A} rule n t a n₁ t₁ e = go (cut LF t) refl
         let s = short-was rule (p .0) a (rw y at k) in
         (p .0, s .0, cut-size LF t p h ∙ ap (λ (y : Bytes). length (p .0) + 1 + length y) z, cc, s .1)
 
-    go : (o : Option (Bytes × Bytes)) → cut LF t ≡ o → (l : Bytes) × (rule l ≡ some a) × (length t ≡ length l + 1 + length t₁) × (n₁ ≡ n + 1) × (length l ≤ 815)
+    go : (o : Option (Bytes × Bytes)) → cut LF t ≡ o
+        → (l : Bytes) × (rule l ≡ some a) × (length t ≡ length l + 1 + length t₁) × (n₁ ≡ n + 1) × (length l ≤ 815)
     go none h = let q : malformed n ≡ got a n₁ t₁ = rw (line, h) at e in absurd (let z : _≡_ {A = ℕ} 0 1 = cc in omega arith)
     go (some p) h = mid p (short (p .0) >>= rule) h refl

@@ -1,6 +1,6 @@
 -- Laws of the lines, as the proofs of the code use them. Assumes nothing.
 use mathlib.Core.Path.{_≡_, refl, _∙_}
-use mathlib.Core.Bool.{true, false, not}
+use mathlib.Core.Bool.{Bool, true, false, not}
 use mathlib.Core.Option.{Option, none, some}
 use mathlib.Core.List.{List, [], _∷_}
 use Prim.Native.Nat.{ℕ, zero, suc, _+_, _-_, _<_, _≤_}
@@ -32,7 +32,8 @@ module _ (id : ℕ) (es : List Entry) (k i : ℕ) (h : i < k) (n : k ≤ length 
       let g : (getD (take k es) i zeros) .id ≡ id = rw (getD-take k es i zeros h) e in
       rw (drop-cons (take k es) i zeros inside, named, eq-eqb ((getD (take k es) i zeros) .id) id g)
 
-  pub named-next : ((getD es i zeros) .id ≡ id → ⊥) → named id (drop i (take k es)) ≡ named id (drop (i + 1) (take k es))
+  pub named-next : ((getD es i zeros) .id ≡ id → ⊥)
+      → named id (drop i (take k es)) ≡ named id (drop (i + 1) (take k es))
   unfolding named
   named-next e =
       let g : (getD (take k es) i zeros) .id ≡ id → ⊥ = rw (getD-take k es i zeros h) e in
@@ -49,22 +50,28 @@ pub row-stored : (n : ℕ) (l : Bytes) (m : List Float) (at : ℕ) → rowInto n
 unfolding rowInto rowStored rowLine _>>=_
 row-stored zero l m at = go (pattern l)
   where
-    go : (o : Option ℕ) → (o >>= λ p. some (set m at (ofBits binary64 p))) ≡ ((o >>= λ p. some (ofBits binary64 p ∷ [])) >>= λ xs. some (sets m at xs))
+    go : (o : Option ℕ)
+        → (o >>= λ p. some (set m at (ofBits binary64 p)))
+        ≡ ((o >>= λ p. some (ofBits binary64 p ∷ [])) >>= λ xs. some (sets m at xs))
     go none = refl
     go (some p) = refl
 row-stored (suc n) l m at = go (cut space l) (λ l₁ m₁. row-stored n l₁ m₁ (suc at))
   where
-    tail : (b : ℕ) (o : Option (List Float)) → (o >>= λ xs. some (sets (set m at (ofBits binary64 b)) (suc at) xs)) ≡ ((o >>= λ xs. some (ofBits binary64 b ∷ xs)) >>= λ xs. some (sets m at xs))
+    tail : (b : ℕ) (o : Option (List Float))
+        → (o >>= λ xs. some (sets (set m at (ofBits binary64 b)) (suc at) xs))
+        ≡ ((o >>= λ xs. some (ofBits binary64 b ∷ xs)) >>= λ xs. some (sets m at xs))
     tail b none = refl
     tail b (some xs) = refl
 
-    mid : (o : Option ℕ) (l₁ : Bytes) → ((l₁ : Bytes) (m₁ : List Float) → rowInto n l₁ m₁ (suc at) ≡ rowStored n l₁ m₁ (suc at))
+    mid : (o : Option ℕ) (l₁ : Bytes)
+        → ((l₁ : Bytes) (m₁ : List Float) → rowInto n l₁ m₁ (suc at) ≡ rowStored n l₁ m₁ (suc at))
         → (o >>= λ p. rowInto n l₁ (set m at (ofBits binary64 p)) (suc at))
         ≡ ((o >>= λ p. rowLine n l₁ >>= λ xs. some (ofBits binary64 p ∷ xs)) >>= λ xs. some (sets m at xs))
     mid none l₁ ih = refl
     mid (some b) l₁ ih = ih l₁ (set m at (ofBits binary64 b)) ∙ tail b (rowLine n l₁)
 
-    go : (o : Option (Bytes × Bytes)) → ((l₁ : Bytes) (m₁ : List Float) → rowInto n l₁ m₁ (suc at) ≡ rowStored n l₁ m₁ (suc at))
+    go : (o : Option (Bytes × Bytes))
+        → ((l₁ : Bytes) (m₁ : List Float) → rowInto n l₁ m₁ (suc at) ≡ rowStored n l₁ m₁ (suc at))
         → (o >>= λ q. pattern (q .0) >>= λ p. rowInto n (q .1) (set m at (ofBits binary64 p)) (suc at))
         ≡ ((o >>= λ q. pattern (q .0) >>= λ p. rowLine n (q .1) >>= λ xs. some (ofBits binary64 p ∷ xs)) >>= λ xs. some (sets m at xs))
     go none ih = refl
@@ -80,7 +87,8 @@ module _ (l : Bytes) (c k p e at : ℕ) (m : List Float) (f : e ≡ found space 
   row-bad g b = let z : c - k ≡ suc (c - (k + 1)) = omega arith in rw (z, cut-some space l p e f g, b)
 
   pub row-next : (b : ℕ) → e < length l → pattern (take (e - p) (drop p l)) ≡ some b
-      → rowInto (c - k) (drop p l) m (at + k) ≡ rowInto (c - (k + 1)) (drop (e + 1) l) (set m (at + k) (ofBits binary64 b)) (at + (k + 1))
+      → rowInto (c - k) (drop p l) m (at + k)
+      ≡ rowInto (c - (k + 1)) (drop (e + 1) l) (set m (at + k) (ofBits binary64 b)) (at + (k + 1))
   unfolding rowInto _>>=_
   row-next b g q =
       let z : c - k ≡ suc (c - (k + 1)) = omega arith in
@@ -88,7 +96,8 @@ module _ (l : Bytes) (c k p e at : ℕ) (m : List Float) (f : e ≡ found space 
       rw (z, cut-some space l p e f g, q, y)
 
 module _ (l : Bytes) (c k p at : ℕ) (m : List Float) (h : k ≡ c) where
-  pub row-last : (b : ℕ) → pattern (take (length l - p) (drop p l)) ≡ some b → rowInto (c - k) (drop p l) m (at + k) ≡ some (set m (at + c) (ofBits binary64 b))
+  pub row-last : (b : ℕ) → pattern (take (length l - p) (drop p l)) ≡ some b
+      → rowInto (c - k) (drop p l) m (at + k) ≡ some (set m (at + c) (ofBits binary64 b))
   unfolding rowInto _>>=_
   row-last b q = let z : c - c ≡ 0 = omega arith in let r : pattern (drop p l) ≡ some b = rw rest-of at q in rw (h, z, r)
 
@@ -146,10 +155,7 @@ module _ (es : List Entry) (l : Bytes) (a : ℕ) (fa : a ≡ found space 0 l) wh
               number-pos 48 (drop (b + 1) l) k last .1 gk,
             )
 
-            pub entry-twice : named i es ≡ true → zeros ≡ orNone (entryLine es l)
-            unfolding when
-            entry-twice g = rw (read, g)
-
-            pub entry-new : named i es ≡ false → record { id = i; rows = r; cols = k } ≡ orNone (entryLine es l)
-            unfolding when
-            entry-new g = rw (read, g)
+            -- the last two ways out: x says whether the id is an earlier entry's
+            pub entry-last : (x : Bool) → x ≡ named i es
+                → orNone (when (not x) (record { id = i; rows = r; cols = k })) ≡ orNone (entryLine es l)
+            entry-last x e = rw (read, e)

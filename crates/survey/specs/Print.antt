@@ -1,5 +1,5 @@
--- What `split` prints of any bytes: each survey that is complete before the first malformed line, by the plain call's outcome at default settings, and
--- then that line's number. Definitions only.
+-- What `split` prints of any bytes: each survey that is complete before the first malformed line, by the plain call's
+-- outcome at default settings, and then that line's number. Definitions only.
 use mathlib.Core.Bool.{true, false}
 use mathlib.Core.List.{List, [], _∷_, _++_, map}
 use Prim.Native.Nat.{ℕ, zero, suc}
@@ -62,7 +62,9 @@ outcomeText id rows cols o =
     ]
 
 unfoldable pub surveyText : Survey → Bytes
-surveyText s = outcomeText (s .entry .id) (s .entry .rows) (s .entry .cols) (plainOutcome binary64 (s .entry .rows) (s .entry .cols) defaults (s .readings))
+surveyText s =
+    let e = s .entry in
+    outcomeText (e .id) (e .rows) (e .cols) (plainOutcome binary64 (e .rows) (e .cols) defaults (s .readings))
 
 -- ---- the whole
 
@@ -71,8 +73,8 @@ surveysText [] = []
 surveysText (s ∷ ss) = surveyText s ++ surveysText ss
 
 -- `refused 9 line`, where a line is malformed
-unfoldable pub refusalText : ℕ → Bytes
-refusalText n =
+unfoldable pub malformedText : ℕ → Bytes
+malformedText n =
     elim (eqb n 0) [
       | true ↦ []
       | false ↦ lineText (refusedWord ∷ shown 9 ∷ shown n ∷ [])
@@ -80,7 +82,7 @@ refusalText n =
 
 -- of a reading, and of any bytes
 unfoldable pub printed : Reading → Bytes
-printed r = surveysText (r .surveys) ++ refusalText (r .malformedLine)
+printed r = surveysText (r .surveys) ++ malformedText (r .malformedLine)
 
 unfoldable pub split : Bytes → Bytes
 split t = printed (reading t)

@@ -1,8 +1,9 @@
--- What is printed of any bytes fits 314,000: at most 8 surveys of at most 39,216 bytes each, and a refusal. Assumes nothing.
+-- What is printed of any bytes fits 314,000: at most 8 surveys of at most 39,216 bytes each, and a refusal. Assumes
+-- nothing.
 use mathlib.Core.Path.{_≡_, refl}
 use mathlib.Core.Bool.{Bool, true, false}
 use mathlib.Core.Option.{Option, none, some}
-use mathlib.Core.List.{List, [], _∷_, _++_, append-assoc}
+use mathlib.Core.List.{List, [], _∷_, _++_}
 use Prim.Native.Nat.{ℕ, zero, suc, _+_, _-_, _*_, _<_, _≤_}
 use native.Mathlib.Omega.{arith}
 use borrow.Author.Tests.{eqb-true, eqb-false}
@@ -16,13 +17,15 @@ use Rattle.survey.specs.declared.reading.Entry.{Entry}
 use Rattle.text.specs.Text.{Bytes, LF, _>>=_, cut, shown, ending, lineText}
 use Rattle.text.specs.Numerals.{number-range}
 use Rattle.text.specs.Writing.{length-shown, places-most}
+use Rattle.survey.specs.Sizes.{room}
 use Rattle.survey.specs.Form.{countLine, entryLine, rowLine, short, Got, malformed, got, line, andThen, contents, head, body, bodies, reading}
-use Rattle.survey.specs.Print.{rowsText, refusedWord, wordText, reportText, refusedText, outcomeText, surveyText, surveysText, refusalText, printed, split}
+use Rattle.survey.specs.Print.{rowsText, refusedWord, wordText, reportText, refusedText, outcomeText, surveyText, surveysText, malformedText, printed, split}
 use Rattle.survey.specs.Code.{Small, surveyOf}
 use Rattle.survey.specs.Found.{InRange}
-use Rattle.survey.specs.Writing.{refusal-is, length-rows, outcome-accepted, outcome-refused}
-use Rattle.survey.specs.Answer.{Table, small, same-size}
-use Rattle.survey.specs.Whole.{All, contents-all, body-length, area}
+use Rattle.survey.specs.Writing.{malformed-is, length-rows, outcome-accepted, outcome-refused}
+use Rattle.survey.specs.Verdict.{small, same-size}
+use Rattle.survey.specs.Surveys.{table}
+use Rattle.survey.specs.Whole.{All, contents-all, survey-length, printed-first, area}
 use Rattle.survey.specs.LineSize.{line-size}
 use Rattle.survey.specs.TextSize.{contents-size}
 
@@ -46,23 +49,20 @@ word-most noWord = omega arith
 word-most settled = omega arith
 word-most stopped = omega arith
 
-refusal-most : (n : ℕ) → n < 1000000 → length (refusalText n) ≤ 24
-unfolding refusalText
-refusal-most zero h = omega arith
-refusal-most (suc n) h = rw (refusal-is (suc n) (omega arith)) (line-most (refusedWord ∷ shown 9 ∷ shown (suc n) ∷ []) (omega arith, (shown-most 9 (omega arith), (shown-most (suc n) h, tt))))
+malformed-most : (n : ℕ) → n < 1000000 → length (malformedText n) ≤ 24
+unfolding malformedText
+malformed-most zero h = omega arith
+malformed-most (suc n) h = rw (malformed-is (suc n) (omega arith)) (line-most (refusedWord ∷ shown 9 ∷ shown (suc n) ∷ []) (omega arith, (shown-most 9 (omega arith), (shown-most (suc n) h, tt))))
 
 -- ---- a survey
 
 module _ (e : Entry) (xs : List Float) (r : InRange e) (l : length xs ≡ e .rows * e .cols) where
-  table : Table (e .rows) (e .cols) xs
-  table = record { rows-least = r .rows-least; rows-most = r .rows-most; cols-least = r .cols-least; cols-most = r .cols-most; size = l }
-
   abbrev told : Outcome
   told = plainOutcome binary64 (e .rows) (e .cols) defaults xs
 
   survey-most : length (surveyText (surveyOf e xs)) ≤ 39216
   unfolding surveyText reportText refusedText
-  survey-most = go (eqb (told .report .refusal .number) 0) refl (small (e .rows) (e .cols) xs table) (same-size (e .rows) (e .cols) xs table)
+  survey-most = go (eqb (told .report .refusal .number) 0) refl (small (e .rows) (e .cols) xs (table e xs r l)) (same-size (e .rows) (e .cols) xs (table e xs r l))
     where
       id-few : e .id < 1000000
       id-few = omega (arith, r .id-most)
@@ -92,7 +92,8 @@ one-line : {A : Type 0} (rule : Bytes → Option A) (n : ℕ) (t : Bytes) → li
 unfolding lineOf line
 one-line {A} rule n t = go (cut LF t) refl
   where
-    mid : (p : Bytes × Bytes) (o : Option A) → cut LF t ≡ some p → (short (p .0) >>= rule) ≡ o → lineOf (line rule n t) ≤ n + 1
+    mid : (p : Bytes × Bytes) (o : Option A) → cut LF t ≡ some p → (short (p .0) >>= rule) ≡ o
+        → lineOf (line rule n t) ≤ n + 1
     mid p none e f = rw (line, e, f) (omega arith)
     mid p (some a) e f = rw (line, e, f) (omega arith)
 
@@ -119,45 +120,47 @@ unfolding lineOf contents andThen
 contents-lines zero es n t = omega arith
 contents-lines (suc k) es n t = go (line (entryLine es) n t) (one-line (entryLine es) n t) (λ x m s. contents-lines k (es ++ (x ∷ [])) m s)
   where
-    go : (g : Got Entry) → lineOf g ≤ n + 1 → ((x : Entry) (m : ℕ) (s : Bytes) → lineOf (contents k (es ++ (x ∷ [])) m s) ≤ m + k)
+    go : (g : Got Entry) → lineOf g ≤ n + 1
+        → ((x : Entry) (m : ℕ) (s : Bytes) → lineOf (contents k (es ++ (x ∷ [])) m s) ≤ m + k)
         → lineOf (andThen g (λ x. contents k (es ++ (x ∷ [])))) ≤ n + suc k
     go (malformed m) h ih = omega arith
     go (got x m s) h ih = omega (arith, ih x m s)
 
 -- ---- the whole
 
-bodies-most : (es : List Entry) (n : ℕ) (t : Bytes) → All es → n + 48 * length es < 1000000 → length (printed (bodies es n t)) ≤ 39216 * length es + 24
+bodies-most : (es : List Entry) (n : ℕ) (t : Bytes) → All es → n + 48 * length es < 1000000
+    → length (printed (bodies es n t)) ≤ 39216 * length es + 24
 unfolding bodies printed surveysText lineOf
-bodies-most [] n [] a h = omega (arith, refusal-most 0 (omega arith))
-bodies-most [] n (b ∷ t) a h = omega (arith, refusal-most n (omega arith))
+bodies-most [] n [] a h = omega (arith, malformed-most 0 (omega arith))
+bodies-most [] n (b ∷ t) a h = omega (arith, malformed-most n (omega arith))
 bodies-most (e ∷ es) n t a h = go (body (e .rows) (e .cols - 1) n t) refl (λ m s. bodies-most es m s (a .1))
   where
     lines : lineOf (body (e .rows) (e .cols - 1) n t) ≤ n + e .rows
     lines = body-lines (e .rows) (e .cols - 1) n t
 
     go : (g : Got (List Float)) → body (e .rows) (e .cols - 1) n t ≡ g
-        → ((m : ℕ) (s : Bytes) → m + 48 * length es < 1000000 → length (printed (bodies es m s)) ≤ 39216 * length es + 24)
+        → ((m : ℕ) (s : Bytes) → m + 48 * length es < 1000000
+        → length (printed (bodies es m s)) ≤ 39216 * length es + 24)
         → length (printed (bodies (e ∷ es) n t)) ≤ 39216 * suc (length es) + 24
     go (malformed m) x ih =
         let k : m ≤ n + e .rows = rw x at lines in
-        rw (bodies, x) (omega (arith, refusal-most m (omega (arith, a .0 .rows-most))))
+        rw (bodies, x) (omega (arith, malformed-most m (omega (arith, a .0 .rows-most))))
     go (got xs m s) x ih =
         let k : m ≤ n + e .rows = rw x at lines in
-        let c₁ : e .cols - 1 + 1 ≡ e .cols = omega (arith, a .0 .cols-least) in
-        let z : length xs ≡ e .rows * e .cols = rw c₁ at (body-length (e .rows) (e .cols - 1) n t xs m s x) in
-        let w = survey-most e xs (a .0) z in
-        let q : printed (bodies (e ∷ es) n t) ≡ surveyText (surveyOf e xs) ++ printed (bodies es m s) = rw (bodies, x) (append-assoc (surveyText (surveyOf e xs)) _ _) in
+        let w = survey-most e xs (a .0) (survey-length e (a .0) n t xs m s x) in
+        let q : printed (bodies (e ∷ es) n t) ≡ surveyText (surveyOf e xs) ++ printed (bodies es m s) = rw (bodies, x) (printed-first (surveyOf e xs) (bodies es m s .surveys) (bodies es m s .malformedLine)) in
         rw q (omega (arith, length-append (surveyText (surveyOf e xs)) (printed (bodies es m s)), w, ih m s (omega (arith, k, a .0 .rows-most))))
 
 -- what is printed of any bytes has at most 314,000
-pub split-most : (t : Bytes) → length (split t) ≤ 314000
+pub split-most : (t : Bytes) → length (split t) ≤ room
 unfolding split reading head andThen countLine lineOf printed surveysText
 split-most t = go (line countLine 1 t) refl (one-line countLine 1 t)
   where
-    bad : (m : ℕ) → m < 1000000 → head 1 t ≡ malformed m → length (printed (reading t)) ≤ 314000
-    bad m h e = rw (reading, e) (omega (arith, refusal-most m h))
+    bad : (m : ℕ) → m < 1000000 → head 1 t ≡ malformed m → length (printed (reading t)) ≤ room
+    bad m h e = rw (reading, e) (omega (arith, malformed-most m h))
 
-    mid : (k n : ℕ) (s : Bytes) (g : Got (List Entry)) → line countLine 1 t ≡ got k n s → contents k [] n s ≡ g → n ≤ 2 → k ≤ 8 → lineOf g ≤ n + k → length (printed (reading t)) ≤ 314000
+    mid : (k n : ℕ) (s : Bytes) (g : Got (List Entry)) → line countLine 1 t ≡ got k n s → contents k [] n s ≡ g → n ≤ 2
+        → k ≤ 8 → lineOf g ≤ n + k → length (printed (reading t)) ≤ room
     mid k n s (malformed m) e f h i j = let d : head 1 t ≡ malformed m = rw (e, f) in bad m (omega arith) d
     mid k n s (got es n₁ t₁) e f h i j =
         let d : head 1 t ≡ got es n₁ t₁ = rw (e, f) in
@@ -165,7 +168,7 @@ split-most t = go (line countLine 1 t) refl (one-line countLine 1 t)
         let b = bodies-most es n₁ t₁ (contents-all k [] n s es n₁ t₁ f tt) (omega (arith, c .1)) in
         rw (reading, d) (omega (arith, b, c .1))
 
-    go : (g : Got ℕ) → line countLine 1 t ≡ g → lineOf g ≤ 1 + 1 → length (printed (reading t)) ≤ 314000
+    go : (g : Got ℕ) → line countLine 1 t ≡ g → lineOf g ≤ 1 + 1 → length (printed (reading t)) ≤ room
     go (malformed m) e h = let d : head 1 t ≡ malformed m = rw e in bad m (omega arith) d
     go (got k n s) e h =
         let l = line-size countLine 1 t k n s e in

@@ -59,7 +59,8 @@ fields-read x (y ∷ ys) f =
     rw (cut-free space (hex x) (fields y ys) (digits-free space 16 16 (toBits binary64 x) (omega arith)), hex-pattern x (f .0), ofBits-toBits binary64 x (f .0), fields-read y ys (f .1))
 
 -- a written row reads back as the same readings
-pub row-round : (n : ℕ) (x : Float) (xs : List Float) (t : Bytes) → length xs < 48 → Fit (x ∷ xs) → line (rowLine (length xs)) n (rowText (x ∷ xs) ++ t) ≡ got (x ∷ xs) (n + 1) t
+pub row-round : (n : ℕ) (x : Float) (xs : List Float) (t : Bytes) → length xs < 48 → Fit (x ∷ xs)
+    → line (rowLine (length xs)) n (rowText (x ∷ xs) ++ t) ≡ got (x ∷ xs) (n + 1) t
 unfolding line
 row-round n x xs t w f =
     let r = fields-read x xs f in
@@ -79,7 +80,8 @@ entry-free e =
       free-append LF (shown (e .rows)) _ (shown-free LF (e .rows) (omega arith)) ((λ z. omega arith), shown-free LF (e .cols) (omega arith)),
     )
 
-pub entry-round : (es : List Entry) (e : Entry) → InRange e → named (e .id) es ≡ false → entryLine es (entryText e) ≡ some e
+pub entry-round : (es : List Entry) (e : Entry) → InRange e → named (e .id) es ≡ false
+    → entryLine es (entryText e) ≡ some e
 unfolding entryText entryLine _>>=_ when
 entry-round es e r f =
     rw (
@@ -102,7 +104,8 @@ abbrev pub Fresh : List Entry → List Entry → Type 0
 Fresh before [] = Unit
 Fresh before (e ∷ es) = (named (e .id) before ≡ false) × Fresh (before ++ (e ∷ [])) es
 
-entry-line : (before : List Entry) (e : Entry) (n : ℕ) (t : Bytes) → InRange e → named (e .id) before ≡ false → line (entryLine before) n (entryText e ++ (LF ∷ t)) ≡ got e (n + 1) t
+entry-line : (before : List Entry) (e : Entry) (n : ℕ) (t : Bytes) → InRange e → named (e .id) before ≡ false
+    → line (entryLine before) n (entryText e ++ (LF ∷ t)) ≡ got e (n + 1) t
 unfolding line
 entry-line before e n t r f =
     let g = entry-round before e r f in
@@ -136,11 +139,13 @@ fit-drop zero xs f = f
 fit-drop (suc k) [] f = tt
 fit-drop (suc k) (x ∷ xs) f = fit-drop k xs (f .1)
 
-row-line-round : (c n : ℕ) (ys : List Float) (t : Bytes) → c < 48 → length ys ≡ c + 1 → Fit ys → line (rowLine c) n (rowText ys ++ t) ≡ got ys (n + 1) t
+row-line-round : (c n : ℕ) (ys : List Float) (t : Bytes) → c < 48 → length ys ≡ c + 1 → Fit ys
+    → line (rowLine c) n (rowText ys ++ t) ≡ got ys (n + 1) t
 row-line-round c n [] t w l f = absurd (omega arith)
 row-line-round c n (x ∷ xs) t w l f = let z : c ≡ length xs = omega arith in rw z (row-round n x xs t (omega arith) f)
 
-pub body-round : (r c n : ℕ) (xs : List Float) (t : Bytes) → c < 48 → length xs ≡ r * (c + 1) → Fit xs → body r c n (rowsText r (c + 1) xs ++ t) ≡ got xs (n + r) t
+pub body-round : (r c n : ℕ) (xs : List Float) (t : Bytes) → c < 48 → length xs ≡ r * (c + 1) → Fit xs
+    → body r c n (rowsText r (c + 1) xs ++ t) ≡ got xs (n + r) t
 unfolding body rowsText andThen
 body-round zero c n xs t w l f =
     let z : n + 0 ≡ n = omega arith in
@@ -159,7 +164,8 @@ pub bits-fit : (ps : List ℕ) → Fit (map (ofBits binary64) ps)
 bits-fit [] = tt
 bits-fit (p ∷ ps) = (ofBits-fits binary64 p, bits-fit ps)
 
--- A table that is printed as a body reads back with the same bits, and each NaN as the NaN: r rows of c columns, whatever follows.
+-- A table that is printed as a body reads back with the same bits, and each NaN as the NaN: r rows of c columns,
+-- whatever follows.
 pub table-round : (r c n : ℕ) (ps : List ℕ) (t : Bytes) → 1 ≤ c → c ≤ 48 → length ps ≡ r * c
     → body r (c - 1) n (rowsText r c (map (ofBits binary64) ps) ++ t) ≡ got (map (ofBits binary64) ps) (n + r) t
 table-round r c n ps t h g l =
@@ -202,7 +208,8 @@ unfolding entries
 entries-length [] = refl
 entries-length (s ∷ ss) = ap suc (entries-length ss)
 
-pub bodies-round : (ss : List Survey) (n : ℕ) → AllSound ss → bodies (entries ss) n (bodiesText ss) ≡ record { surveys = ss; malformedLine = 0 }
+pub bodies-round : (ss : List Survey) (n : ℕ) → AllSound ss
+    → bodies (entries ss) n (bodiesText ss) ≡ record { surveys = ss; malformedLine = 0 }
 unfolding bodies entries bodiesText
 bodies-round [] n a = refl
 bodies-round (s ∷ ss) n a =
@@ -219,8 +226,10 @@ count-line k t p q =
     let s = short-some countLine (shown k) k g (omega (arith, count-size (shown k) k g)) in
     rw (line, cut-free LF (shown k) t (shown-free LF k (omega arith)), s)
 
--- A text that was written from one to eight sound surveys with different ids is read as these surveys, and no line of it is malformed.
-pub text-round : (ss : List Survey) → 0 < length ss → length ss ≤ 8 → AllSound ss → Fresh [] (entries ss) → reading (written ss) ≡ record { surveys = ss; malformedLine = 0 }
+-- A text that was written from one to eight sound surveys with different ids is read as these surveys, and no line of
+-- it is malformed.
+pub text-round : (ss : List Survey) → 0 < length ss → length ss ≤ 8 → AllSound ss → Fresh [] (entries ss)
+    → reading (written ss) ≡ record { surveys = ss; malformedLine = 0 }
 unfolding reading written head andThen
 text-round ss p q a f =
     let t = contentsText (entries ss) ++ bodiesText ss in

@@ -10,6 +10,7 @@ use lib.ListN.{length, length-append}
 use Rattle.survey.specs.declared.reading.Entry.{Entry}
 use Rattle.text.specs.Text.{Bytes, LF, _>>=_, cut}
 use Rattle.text.specs.Numerals.{number-range}
+use Rattle.survey.specs.Sizes.{longest}
 use Rattle.survey.specs.Form.{countLine, entryLine, rowLine, short, Got, malformed, got, line, andThen, contents, head, body, bodies, reading}
 use Rattle.survey.specs.Found.{then-got}
 use Rattle.survey.specs.LineSize.{count-size, entry-size, row-size, line-size}
@@ -17,7 +18,8 @@ use Rattle.survey.specs.Whole.{All, contents-all, area}
 
 -- ---- line by line
 
-pub contents-size : (k : ℕ) (es : List Entry) (n : ℕ) (t : Bytes) (es₁ : List Entry) (n₁ : ℕ) (t₁ : Bytes) → contents k es n t ≡ got es₁ n₁ t₁
+pub contents-size : (k : ℕ) (es : List Entry) (n : ℕ) (t : Bytes) (es₁ : List Entry) (n₁ : ℕ) (t₁ : Bytes)
+    → contents k es n t ≡ got es₁ n₁ t₁
     → (length t ≤ 12 * k + length t₁) × (length es₁ ≡ length es + k) × (n ≤ n₁)
 unfolding contents
 contents-size zero es n t es₁ n₁ t₁ e =
@@ -32,7 +34,8 @@ contents-size (suc k) es n t es₁ n₁ t₁ e =
     let ih = contents-size k (es ++ (p .0 ∷ [])) (p .1) (p .2) es₁ n₁ t₁ (p .4) in
     (omega (arith, l .2, s, ih .0), omega (arith, length-append es (p .0 ∷ []), ih .1), omega (arith, l .3, ih .2))
 
-pub body-size : (r c n : ℕ) (t : Bytes) (xs : List Float) (n₁ : ℕ) (t₁ : Bytes) → body r c n t ≡ got xs n₁ t₁ → (length t ≡ 17 * (r * (c + 1)) + length t₁) × (n ≤ n₁)
+pub body-size : (r c n : ℕ) (t : Bytes) (xs : List Float) (n₁ : ℕ) (t₁ : Bytes) → body r c n t ≡ got xs n₁ t₁
+    → (length t ≡ 17 * (r * (c + 1)) + length t₁) × (n ≤ n₁)
 unfolding body
 body-size zero c n t xs n₁ t₁ e =
     let q : t ≡ t₁ = cc in
@@ -68,11 +71,13 @@ unfolding body andThen
 body-bad-line zero c n t m e = absurd (let z : _≡_ {A = ℕ} 0 1 = cc in omega arith)
 body-bad-line (suc r) c n t m e = go (line (rowLine c) n t) refl (λ k s. body-bad-line r c k s m)
   where
-    mid : (x : List Float) (k : ℕ) (s : Bytes) (g : Got (List Float)) → body r c k s ≡ g → andThen g (λ ys. got (x ++ ys)) ≡ malformed m → (body r c k s ≡ malformed m → k ≤ m) → k ≤ m
+    mid : (x : List Float) (k : ℕ) (s : Bytes) (g : Got (List Float)) → body r c k s ≡ g
+        → andThen g (λ ys. got (x ++ ys)) ≡ malformed m → (body r c k s ≡ malformed m → k ≤ m) → k ≤ m
     mid x k s (malformed j) h q ih = ih (let w : _≡_ {A = Got (List Float)} (malformed j) (malformed m) = q in cc)
     mid x k s (got ys n₂ t₂) h q ih = absurd (let w : got (x ++ ys) n₂ t₂ ≡ malformed m = q in let z : _≡_ {A = ℕ} 0 1 = cc in omega arith)
 
-    go : (g : Got (List Float)) → line (rowLine c) n t ≡ g → ((k : ℕ) (s : Bytes) → body r c k s ≡ malformed m → k ≤ m) → n ≤ m
+    go : (g : Got (List Float)) → line (rowLine c) n t ≡ g → ((k : ℕ) (s : Bytes) → body r c k s ≡ malformed m → k ≤ m)
+        → n ≤ m
     go (malformed k) h ih =
         let q : _≡_ {A = Got (List Float)} (malformed k) (malformed m) = rw h at e in
         let z : k ≡ m = cc in
@@ -86,7 +91,8 @@ unfolding contents andThen
 contents-bad-line zero es n t m e = absurd (let z : _≡_ {A = ℕ} 0 1 = cc in omega arith)
 contents-bad-line (suc k) es n t m e = go (line (entryLine es) n t) refl (λ x j s. contents-bad-line k (es ++ (x ∷ [])) j s m)
   where
-    go : (g : Got Entry) → line (entryLine es) n t ≡ g → ((x : Entry) (j : ℕ) (s : Bytes) → contents k (es ++ (x ∷ [])) j s ≡ malformed m → j ≤ m) → n ≤ m
+    go : (g : Got Entry) → line (entryLine es) n t ≡ g
+        → ((x : Entry) (j : ℕ) (s : Bytes) → contents k (es ++ (x ∷ [])) j s ≡ malformed m → j ≤ m) → n ≤ m
     go (malformed j) h ih =
         let q : _≡_ {A = Got (List Entry)} (malformed j) (malformed m) = rw h at e in
         let z : j ≡ m = cc in
@@ -97,14 +103,16 @@ contents-bad-line (suc k) es n t m e = go (line (entryLine es) n t) refl (λ x j
 
 -- ---- the whole text
 
-pub bodies-size : (es : List Entry) (n : ℕ) (t : Bytes) → All es → 0 < n → (bodies es n t) .malformedLine ≡ 0 → length t ≤ 39168 * length es
+pub bodies-size : (es : List Entry) (n : ℕ) (t : Bytes) → All es → 0 < n → (bodies es n t) .malformedLine ≡ 0
+    → length t ≤ 39168 * length es
 unfolding bodies
 bodies-size [] n [] a h e = omega arith
 bodies-size [] n (b ∷ t) a h e = absurd (omega arith)
 bodies-size (x ∷ es) n t a h e = go (body (x .rows) (x .cols - 1) n t) refl (λ n₁ t₁. bodies-size es n₁ t₁ (a .1))
   where
     go : (g : Got (List Float)) → body (x .rows) (x .cols - 1) n t ≡ g
-        → ((n₁ : ℕ) (t₁ : Bytes) → 0 < n₁ → (bodies es n₁ t₁) .malformedLine ≡ 0 → length t₁ ≤ 39168 * length es) → length t ≤ 39168 * suc (length es)
+        → ((n₁ : ℕ) (t₁ : Bytes) → 0 < n₁ → (bodies es n₁ t₁) .malformedLine ≡ 0 → length t₁ ≤ 39168 * length es)
+        → length t ≤ 39168 * suc (length es)
     go (malformed m) k ih =
         let q : m ≡ 0 = rw (bodies, k) at e in
         absurd (omega (arith, body-bad-line (x .rows) (x .cols - 1) n t m k))
@@ -114,14 +122,15 @@ bodies-size (x ∷ es) n t a h e = go (body (x .rows) (x .cols - 1) n t) refl (�
         omega (arith, s .0, area x (a .0) .1, ih n₁ t₁ (omega (arith, s .1)) q)
 
 -- a text without a malformed line has at most 313,442 bytes
-pub text-size : (t : Bytes) → (reading t) .malformedLine ≡ 0 → length t ≤ 313442
+pub text-size : (t : Bytes) → (reading t) .malformedLine ≡ 0 → length t ≤ longest
 unfolding reading head andThen countLine
 text-size t e = go (line countLine 1 t) refl
   where
     no : (m : ℕ) → head 1 t ≡ malformed m → 1 ≤ m → ⊥
     no m h g = let q : m ≡ 0 = rw (reading, h) at e in omega arith
 
-    mid : (k n : ℕ) (s : Bytes) (g : Got (List Entry)) → line countLine 1 t ≡ got k n s → contents k [] n s ≡ g → length t ≤ 313442
+    mid : (k n : ℕ) (s : Bytes) (g : Got (List Entry)) → line countLine 1 t ≡ got k n s → contents k [] n s ≡ g
+        → length t ≤ longest
     mid k n s (malformed m) h j =
         let d : head 1 t ≡ malformed m = rw (h, j) in
         let l = line-size countLine 1 t k n s h in
@@ -133,7 +142,7 @@ text-size t e = go (line countLine 1 t) refl
         let q : (bodies es n₁ t₁) .malformedLine ≡ 0 = rw (reading, d) at e in
         omega (arith, l .2, count-size (l .0) k (l .1), c .0, c .1, number-range 8 (l .0) k (l .1) .1, bodies-size es n₁ t₁ (contents-all k [] n s es n₁ t₁ j tt) (omega (arith, l .3, c .2)) q)
 
-    go : (g : Got ℕ) → line countLine 1 t ≡ g → length t ≤ 313442
+    go : (g : Got ℕ) → line countLine 1 t ≡ g → length t ≤ longest
     go (malformed m) h =
         let d : head 1 t ≡ malformed m = rw h in
         absurd (no m d (omega (arith, line-bad-line countLine 1 t m h)))

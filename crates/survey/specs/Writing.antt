@@ -13,14 +13,15 @@ use Rattle.method.specs.Outcome.{Outcome}
 use Rattle.text.specs.Text.{Bytes, LF, space, digits, shown, ending, lineText, leaves, putAt}
 use Rattle.text.specs.Writing.{Wrote, wrote}
 use Rattle.text.specs.Digits.{length-digits}
-use Rattle.survey.specs.Print.{hex, rowText, rowsText, refusedWord, reportText, refusedText, outcomeText, refusalText}
+use Rattle.survey.specs.Print.{hex, rowText, rowsText, refusedWord, reportText, refusedText, outcomeText, malformedText}
 
 pub length-hex : (x : Float) → length (hex x) ≡ 16
 unfolding hex
 length-hex x = length-digits 16 16 (toBits binary64 x)
 
 -- a float's digits, as the code writes them
-pub hex-wrote : (out o : Bytes) (q a p : ℕ) (x : Float) → p ≡ toBits binary64 x → leaves o a ≡ putAt q (digits 16 16 p) out → Wrote out q (hex x) o a
+pub hex-wrote : (out o : Bytes) (q a p : ℕ) (x : Float) → p ≡ toBits binary64 x
+    → leaves o a ≡ putAt q (digits 16 16 p) out → Wrote out q (hex x) o a
 unfolding hex
 hex-wrote out o q a p x e h = wrote out q (hex x) o a (rw e at h)
 
@@ -44,7 +45,8 @@ unfolding ending
 after-last [] h = refl
 after-last (x ∷ xs) h = absurd (omega arith)
 
-pub row-next : (x : Float) (xs : List Float) (s : ℕ) → s ≡ ending (map hex xs) → rowText (x ∷ xs) ≡ hex x ++ (s ∷ rowText xs)
+pub row-next : (x : Float) (xs : List Float) (s : ℕ) → s ≡ ending (map hex xs)
+    → rowText (x ∷ xs) ≡ hex x ++ (s ∷ rowText xs)
 unfolding rowText lineText
 row-next x xs s e = rw e
 
@@ -57,12 +59,14 @@ module _ (m : List Float) (from c k : ℕ) (h : k < c) (g : from + c ≤ length 
   length-others = length-take-le (c - (k + 1)) (drop (from + (k + 1)) m) (simp length-drop (omega arith))
 
   pub row-more : k + 1 < c
-      → rowText (take (c - k) (drop (from + k) m)) ≡ hex (getD m (from + k) nan) ++ (space ∷ rowText (take (c - (k + 1)) (drop (from + (k + 1)) m)))
+      → rowText (take (c - k) (drop (from + k) m))
+      ≡ hex (getD m (from + k) nan) ++ (space ∷ rowText (take (c - (k + 1)) (drop (from + (k + 1)) m)))
   unfolding others
   row-more n = rw (part-cons m from c k h g) (row-next _ others space (after-more others (omega (arith, length-others))))
 
   pub row-last : c ≤ k + 1
-      → rowText (take (c - k) (drop (from + k) m)) ≡ hex (getD m (from + k) nan) ++ (LF ∷ rowText (take (c - (k + 1)) (drop (from + (k + 1)) m)))
+      → rowText (take (c - k) (drop (from + k) m))
+      ≡ hex (getD m (from + k) nan) ++ (LF ∷ rowText (take (c - (k + 1)) (drop (from + (k + 1)) m)))
   unfolding others
   row-last n = rw (part-cons m from c k h g) (row-next _ others LF (after-last others (omega (arith, length-others))))
 
@@ -86,7 +90,8 @@ times-below j r c h =
     omega (arith, times-next j c)
 
 pub rows-next : (r c j : ℕ) (m : List Float) → j < r
-    → rowsText (r - j) c (drop (j * c) m) ≡ rowText (take c (drop (j * c) m)) ++ rowsText (r - (j + 1)) c (drop ((j + 1) * c) m)
+    → rowsText (r - j) c (drop (j * c) m)
+    ≡ rowText (take c (drop (j * c) m)) ++ rowsText (r - (j + 1)) c (drop ((j + 1) * c) m)
 unfolding rowsText
 rows-next r c j m h = let z : r - j ≡ suc (r - (j + 1)) = omega arith in rw (z, drop-drop, times-next j c)
 
@@ -115,9 +120,9 @@ rows-only (suc r) c xs ys h =
 
 -- ---- the other lines
 
-pub refusal-is : (n : ℕ) → 0 < n → refusalText n ≡ lineText (refusedWord ∷ shown 9 ∷ shown n ∷ [])
-unfolding refusalText
-refusal-is n h = rw (refusalText, ne-eqb n 0 (λ z. omega arith))
+pub malformed-is : (n : ℕ) → 0 < n → malformedText n ≡ lineText (refusedWord ∷ shown 9 ∷ shown n ∷ [])
+unfolding malformedText
+malformed-is n h = rw (malformedText, ne-eqb n 0 (λ z. omega arith))
 
 module _ (id rows cols : ℕ) (o : Outcome) where
   pub outcome-accepted :

@@ -8,21 +8,28 @@ ghost use Rattle.method.specs.Work.{work};
 ghost use Rattle.method.specs.Outcome.{outcomeOf, plainOutcome};
 ghost use Rattle.method.specs.Defaults.{defaults};
 ghost use Rattle.svd.specs.Values.{reportOf};
-ghost use Rattle.survey.specs.Print.{surveyText, split};
-ghost use Rattle.text.specs.Text.{Written};
+ghost use Rattle.survey.specs.Print.{surveyText};
 ghost use Rattle.text.specs.Writing.{Wrote};
 ghost use Rattle.survey.specs.Code.{surveyOf};
 ghost use Rattle.survey.specs.Found.{InRange};
+ghost use Rattle.survey.specs.Answers.{Promised, InputPromised};
 use crate::reading::Entry;
 use crate::reading::body;
 use crate::reading::contents;
+use crate::writing::put_malformed;
 use crate::writing::put_outcome;
-use crate::writing::put_refusal;
 use checks::settings::Settings;
 use svd::report::Report;
 
 mod reading;
 mod writing;
+
+// How many bytes of an input settle what is printed of it: one more than the longest well-formed
+// text has.
+pub const ENOUGH: usize = 313443;
+
+// Room for whatever is printed.
+pub const ROOM: usize = 314000;
 
 // The plain call at default settings on the first rows x cols readings of m.
 fn decomposed(m: &mut [f64], rows: usize, cols: usize) -> Report
@@ -49,8 +56,8 @@ fn put_survey(out: &mut [u8], at: usize, e: Entry, m: &mut [f64]) -> usize
 
 // The whole of what `split` prints of the bytes `text`, written into out from its first byte on, where there is
 // always room; how many bytes it has. What follows them in out stays as it was.
-pub fn split_text(text: &[u8], out: &mut [u8; 314000]) -> usize
-    ensures { λ r. ⌜ Written (now (out .entry)) 0 (split (now (text .entry))) (now (out .exit)) r × (r ≤ 314000) ⌝ }
+pub fn split_text(text: &[u8], out: &mut [u8; ROOM]) -> usize
+    ensures { λ r. ⌜ Promised (now (text .entry)) (now (out .entry)) (now (out .exit)) r ⌝ }
 {
     let h = contents(text);
     let es = h.es;
@@ -58,7 +65,7 @@ pub fn split_text(text: &[u8], out: &mut [u8; 314000]) -> usize
     let mut line = h.line;
     let mut p = h.at;
     if count == 0 {
-        return put_refusal(out, 0, line);
+        return put_malformed(out, 0, line);
     }
     let mut m = [0.0; 2304];
     let mut q = 0;
@@ -74,11 +81,24 @@ pub fn split_text(text: &[u8], out: &mut [u8; 314000]) -> usize
             line = b.line;
             i += 1;
         } else {
-            return put_refusal(out, q, b.line);
+            return put_malformed(out, q, b.line);
         }
     }
     if p < text.len() {
-        return put_refusal(out, q, line);
+        return put_malformed(out, q, line);
     }
     q
+}
+
+// What `split` prints of an input whose first bytes are the first n of `read`: either n are all that
+// it has, or `read` is full of them. The promise is of every such input, however long it is.
+pub fn split_input(read: &[u8; ENOUGH], n: usize, out: &mut [u8; ROOM]) -> usize
+    ensures { λ r. ⌜ InputPromised (take n (now (read .entry))) (now (out .entry)) (now (out .exit)) r ⌝ }
+{
+    let all: &[u8] = read;
+    if n < ENOUGH {
+        split_text(&all[..n], out)
+    } else {
+        split_text(all, out)
+    }
 }

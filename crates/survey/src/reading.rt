@@ -5,7 +5,7 @@ ghost use Prim.Native.Nat.{_+_, _*_, _<_, _≤_};
 ghost use lib.ListN.{length, take, drop};
 ghost use Rattle.text.specs.Text.{when};
 ghost use Rattle.survey.specs.Form.{named as namedIn, entryLine, contents as contentsIn, head as headIn};
-ghost use Rattle.survey.specs.Code.{orNone, rowStored, placed, bodyStored, headed};
+ghost use Rattle.survey.specs.Code.{orNone, rowStored, placed, bodyStored, HeadIs};
 use text::fields::find;
 use text::numerals::Number;
 use text::numerals::pattern;
@@ -133,7 +133,8 @@ pub(crate) fn body(
     m: &mut [f64; 2304],
 ) -> Place
     requires { ⌜ (at ≤ length (now text)) × (n + rows < 1000000) × (c < 48) × (rows * (c + 1) ≤ 2304) ⌝ }
-    ensures { λ r. ⌜ (placed r (now (text .entry)) (now (m .exit)) ≡ bodyStored rows c n (drop at (now (text .entry))) (now (m .entry)) 0)
+    ensures { λ r. ⌜ (placed r (now (text .entry)) (now (m .exit))
+        ≡ bodyStored rows c n (drop at (now (text .entry))) (now (m .entry)) 0)
         × (r .at ≤ length (now (text .entry))) × (n ≤ r .line) × (r .line ≤ n + rows) ⌝ }
 {
     let mut p = at;
@@ -187,8 +188,7 @@ fn malformed(line: usize) -> Head
 // The lines of the contents, `count` of them, from line 2 at `at` on.
 fn entries(text: &[u8], at: usize, count: usize) -> Head
     requires { ⌜ (at ≤ length (now text)) × (0 < count) × (count ≤ 8) ⌝ }
-    ensures { λ r. ⌜ (headed r (now (text .entry)) ≡ contentsIn count [] 2 (drop at (now (text .entry)))) × (r .at ≤ length (now (text .entry)))
-        × (r .count ≤ 8) × (0 < r .line) × (r .line ≤ 10) × (length (r .es) ≡ 8) ⌝ }
+    ensures { λ r. ⌜ HeadIs r (now (text .entry)) (contentsIn count [] 2 (drop at (now (text .entry)))) ⌝ }
 {
     let none = Entry {
         id: 0,
@@ -221,8 +221,7 @@ fn entries(text: &[u8], at: usize, count: usize) -> Head
 
 // The count and the contents of a text.
 pub(crate) fn contents(text: &[u8]) -> Head
-    ensures { λ r. ⌜ (headed r (now (text .entry)) ≡ headIn 1 (now (text .entry))) × (r .at ≤ length (now (text .entry))) × (r .count ≤ 8)
-        × (0 < r .line) × (r .line ≤ 10) × (length (r .es) ≡ 8) ⌝ }
+    ensures { λ r. ⌜ HeadIs r (now (text .entry)) (headIn 1 (now (text .entry))) ⌝ }
 {
     let f = find(text, 0, 10);
     if f == text.len() {

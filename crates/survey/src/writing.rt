@@ -9,7 +9,7 @@ ghost use Rattle.svd.specs.Values.{reportOf, wordIn};
 ghost use Rattle.text.specs.Text.{space};
 ghost use Rattle.text.specs.Writing.{Wrote};
 ghost use Rattle.survey.specs.Print.{rowText, rowsText, wordText};
-ghost use Rattle.survey.specs.Print.{reportText, refusedText, outcomeText, refusalText};
+ghost use Rattle.survey.specs.Print.{reportText, refusedText, outcomeText, malformedText};
 use crate::reading::Entry;
 use svd::report::Report;
 use svd::report::Word;
@@ -79,7 +79,7 @@ fn put_report(out: &mut [u8], at: usize, id: u64, report: Report) -> usize
     put(out, f, b"\n")
 }
 
-// The line of a survey that the call refuses.
+// The line of a survey that the call refuses: `id refused number place`.
 fn put_refused(out: &mut [u8], at: usize, id: u64, report: Report) -> usize
     ensures { λ r. ⌜ Wrote (now (out .entry)) at (refusedText id (reportOf report)) (now (out .exit)) r ⌝ }
 {
@@ -108,10 +108,10 @@ pub(crate) fn put_outcome(out: &mut [u8], at: usize, e: Entry, report: Report, m
     }
 }
 
-// The refusal of a text whose first malformed line is line n.
-pub(crate) fn put_refusal(out: &mut [u8], at: usize, n: usize) -> usize
+// The line of a text whose first malformed line is line n: `refused 9 n`.
+pub(crate) fn put_malformed(out: &mut [u8], at: usize, n: usize) -> usize
     requires { ⌜ 0 < n ⌝ }
-    ensures { λ r. ⌜ Wrote (now (out .entry)) at (refusalText n) (now (out .exit)) r ⌝ }
+    ensures { λ r. ⌜ Wrote (now (out .entry)) at (malformedText n) (now (out .exit)) r ⌝ }
 {
     let a = put(out, at, b"refused");
     let b = put_field(out, a, 9);

@@ -11,7 +11,8 @@ pub found-one :
     (r ≡ found stop at s) × (r ≤ length s) → (r′ ≡ found stop at s) × (r′ ≤ length s) → r ≡ r′
 found-one stop at s r r′ e e′ = e .0 ∙ sym (e′ .0)
 
--- where what a writer wrote ends, and its slice: s are the bytes of `put`, of `put_hex`, of `put_decimal` or of `put_field`
+-- where what a writer wrote ends, and its slice: s are the bytes of `put`, of `put_hex`, of `put_decimal` or of
+-- `put_field`
 pub put-one :
     (at : ℕ) (s l : Bytes) (r r′ : ℕ) (o o′ : Bytes) →
     leaves o r ≡ putAt at s l → leaves o′ r′ ≡ putAt at s l → (r ≡ r′) × (o ≡ o′)

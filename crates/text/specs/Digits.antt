@@ -13,6 +13,11 @@ use Rattle.text.specs.Text.{Bytes, worth, value, digit, digits}
 -- ---- a byte's worth
 
 module _ (b : ℕ) where
+  -- no byte above F is a digit: a lower-case letter is none
+  pub worth-above : 71 ≤ b → 16 ≡ worth b
+  unfolding worth
+  worth-above g = rw (worth, le-leb 48 b (omega arith), lt-leb b 57 (omega arith), le-leb 65 b (omega arith), lt-leb b 70 (omega arith))
+
   pub worth-below : b < 48 → 16 ≡ worth b
   unfolding worth
   worth-below h = rw (worth, lt-leb 48 b h, lt-leb 65 b (omega arith))
@@ -28,10 +33,6 @@ module _ (b : ℕ) where
   pub worth-letter : 65 ≤ b → b < 71 → b - 55 ≡ worth b
   unfolding worth
   worth-letter g h = rw (worth, le-leb 48 b (omega arith), lt-leb b 57 (omega arith), le-leb 65 b g, le-leb b 70 (omega arith))
-
-  pub worth-above : 71 ≤ b → 16 ≡ worth b
-  unfolding worth
-  worth-above g = rw (worth, le-leb 48 b (omega arith), lt-leb b 57 (omega arith), le-leb 65 b (omega arith), lt-leb b 70 (omega arith))
 
 -- ---- the digits of a slice, one at a time
 
@@ -77,7 +78,8 @@ module _ {A : Type 0} where
   sets-append (d ∷ ds) es l at = sets-append ds es (set l at d) (suc at) ∙ ap (λ (k : ℕ). sets (sets (set l at d) (suc at) ds) k es) (omega arith)
 
 pub digits-next : (out : Bytes) (at base j n : ℕ) → 0 < j
-    → sets out at (digits base j n) ≡ sets (set out (at + (j - 1)) (digit (n % base))) at (digits base (j - 1) (n / base))
+    → sets out at (digits base j n)
+    ≡ sets (set out (at + (j - 1)) (digit (n % base))) at (digits base (j - 1) (n / base))
 unfolding digits
 digits-next out at base zero n h = absurd (let z : 0 < 0 = h in omega arith)
 digits-next out at base (suc k) n h =

@@ -1,5 +1,5 @@
--- Laws of the writing: how many digits a number has, what a writer leaves where there is room and where there is none, and one
--- text after the other. Assumes nothing.
+-- Laws of the writing: how many digits a number has, what a writer leaves where there is room and where there is none,
+-- and one text after the other. Assumes nothing.
 use mathlib.Core.Path.{_≡_, refl, sym, ap, _∙_}
 use mathlib.Core.Bool.{Bool, true, false}
 use mathlib.Core.List.{[], _∷_, _++_}
@@ -97,8 +97,8 @@ field-stored at k n l o e h =
     let p : k - 1 ≡ placesBy n n = omega arith in
     h ∙ rw (p, add-one at)
 
--- `out₁` has as many bytes as `out`. Where the bytes s have room in it from `at` on, they were stored and end at `end`; where they have
--- none, `end` is past the end. What a writer leaves is so, and so is one text after the other.
+-- `out₁` has as many bytes as `out`. Where the bytes s have room in it from `at` on, they were stored and end at `end`;
+-- where they have none, `end` is past the end. What a writer leaves is so, and so is one text after the other.
 pub record Wrote (out : Bytes) (at : ℕ) (s : Bytes) (out₁ : Bytes) (end : ℕ) : Type 0 where
   pub kept : length out₁ ≡ length out
   pub fits : at + length s ≤ length out → Written out at s out₁ end

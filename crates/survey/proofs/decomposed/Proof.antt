@@ -21,14 +21,14 @@ slice-aggregate-svd-decomposition c = sym (length-take-le _ _ (c .before .before
 
 returns : tie.Need-returns
 returns c =
-    let st = c .before .before .before .before .before .before in
-    let n = st .args .rows * st .args .cols in
-    let m = st .args .m .now in
+    let at-start = c .before .before .before .before .before .before in
+    let n = at-start .args .rows * at-start .args .cols in
+    let m = at-start .args .m .now in
     let a = c .before .before .svd-decomposition in
-    let h : length (take n m) ≡ n = length-take-le n m (st .pre .2) in
-    let e : outcomeOf (reportOf (a .result)) (work (a .last .0) [] []) ≡ plainOutcome binary64 (st .args .rows) (st .args .cols) defaults (take n m) = rw (c .before .before .before .new .ensures) at (a .ensures) in
-    let l : length (a .last .0) ≡ n = ap (λ (o : Outcome). length (o .held .matrix)) e ∙ outcome-lengths binary64 false (st .args .rows) (st .args .cols) defaults (work (take n m) [] []) .matrix ∙ h in
-    (rw (take-at (a .last .0) (drop n m) n l) e, length-append (a .last .0) (drop n m) ∙ omega (arith, l, length-drop n m, st .pre .2))
+    let h : length (take n m) ≡ n = length-take-le n m (at-start .pre .2) in
+    let e : outcomeOf (reportOf (a .result)) (work (a .last .0) [] []) ≡ plainOutcome binary64 (at-start .args .rows) (at-start .args .cols) defaults (take n m) = rw (c .before .before .before .new .ensures) at (a .ensures) in
+    let l : length (a .last .0) ≡ n = ap (λ (o : Outcome). length (o .held .matrix)) e ∙ outcome-lengths binary64 false (at-start .args .rows) (at-start .args .cols) defaults (work (take n m) [] []) .matrix ∙ h in
+    (rw (take-at (a .last .0) (drop n m) n l) e, length-append (a .last .0) (drop n m) ∙ omega (arith, l, length-drop n m, at-start .pre .2))
 
 pub decomposed-spec : {M : Type 1} → statement M
 decomposed-spec =

@@ -23,9 +23,9 @@ decomposed-requires c κs =
     (r .rows-most, r .cols-most, omega (arith, at-start .pre .1, area (at-start .args .e) r .0))
 
 -- what the call said of the readings
-said : (c : tie.After-decomposed) → let ar = c .before .before .before .before .args in let e = ar .e in
+said : (c : tie.After-decomposed) → let args = c .before .before .before .before .args in let e = args .e in
     outcomeOf (reportOf (c .decomposed .result)) (work (take (e .rows * e .cols) (c .decomposed .last .0)) [] [])
-    ≡ plainOutcome binary64 (e .rows) (e .cols) defaults (take (e .rows * e .cols) (ar .m .now))
+    ≡ plainOutcome binary64 (e .rows) (e .cols) defaults (take (e .rows * e .cols) (args .m .now))
 said c = c .decomposed .ensures .0
 
 put-outcome-requires : tie.Need-put-outcome-requires

@@ -34,50 +34,50 @@ left r a o e h = rw e at h
 -- and it is not before where the search began
 onwards : (c : tie.Else1 Inv-loop μ-loop) → c .before .before .before .loop .p ≤ c .before .find .result
 onwards c =
-    let at-loop = c .before .before .before in
-    omega (arith, c .before .find .ensures .0, found-least 10 (at-loop .loop .p) (at-loop .before .before .args .text .now) (at-loop .loop .inv .1))
+    let loop-stage = c .before .before .before in
+    omega (arith, c .before .find .ensures .0, found-least 10 (loop-stage .loop .p) (loop-stage .before .before .args .text .now) (loop-stage .loop .inv .1))
 
 loop-holds : tie.Need-loop-holds Inv-loop μ-loop
 loop-holds c =
-    let ar = c .before .args in
-    let y : ar .rows - 0 ≡ ar .rows = omega arith in
-    let z : ar .n + 0 ≡ ar .n = omega arith in
-    (omega arith, omega arith, omega (arith, ap (λ (z : ℕ). z * (ar .c + 1)) y), rw (y, z) (body-stored _ _ _ _ _ _))
+    let args = c .before .args in
+    let y : args .rows - 0 ≡ args .rows = omega arith in
+    let z : args .n + 0 ≡ args .n = omega arith in
+    (omega arith, omega arith, omega (arith, ap (λ (z : ℕ). z * (args .c + 1)) y), rw (y, z) (body-stored _ _ _ _ _ _))
 
 returns : tie.Need-returns Inv-loop μ-loop
 unfolding placed
 returns c =
-    let st = c .before .before .before .before .before in
-    let lp = c .before .before .before .loop in
-    (sym (body-none _ _ _ _ _ _ _ _ _ (c .before .find .ensures .0) (c .before .before .loop-test .taken) (st .pre .2) (c .if1 .taken)) ∙ lp .inv .3, omega arith, omega arith, omega arith)
+    let at-start = c .before .before .before .before .before in
+    let at-loop = c .before .before .before .loop in
+    (sym (body-none _ _ _ _ _ _ _ _ _ (c .before .find .ensures .0) (c .before .before .loop-test .taken) (at-start .pre .2) (c .if1 .taken)) ∙ at-loop .inv .3, omega arith, omega arith, omega arith)
 
 row-line-requires : tie.Need-row-line-requires Inv-loop μ-loop
 row-line-requires c κs =
-    let ar = c .before .before .before .before .before .before .before .args in
-    let lp = c .before .before .before .before .before .loop in
-    omega (arith, room (ar .rows) (lp .j) (ar .c + 1) (c .before .before .before .before .loop-test .taken))
+    let args = c .before .before .before .before .before .before .before .args in
+    let at-loop = c .before .before .before .before .before .loop in
+    omega (arith, room (args .rows) (at-loop .j) (args .c + 1) (c .before .before .before .before .loop-test .taken))
 
 add-k-2 : tie.Need-add-k-2 Inv-loop μ-loop
 add-k-2 c =
-    let ar = c .before .before .before .before .before .before .before .before .before .args in
-    let lp = c .before .before .before .before .before .before .before .loop in
-    omega (arith, room (ar .rows) (lp .j) (ar .c + 1) (c .before .before .before .before .before .before .loop-test .taken))
+    let args = c .before .before .before .before .before .before .before .before .before .args in
+    let at-loop = c .before .before .before .before .before .before .before .loop in
+    omega (arith, room (args .rows) (at-loop .j) (args .c + 1) (c .before .before .before .before .before .before .loop-test .taken))
 
 loop-again : tie.Need-loop-again Inv-loop μ-loop
 unfolding when
 loop-again c =
     let at-find = c .before .before .before .before .before in
     let at-loop-test = at-find .before in
-    let lp = at-loop-test .before in
-    let st = lp .before .before in
-    let ar = st .args in
-    let lp = lp .loop in
+    let loop-stage = at-loop-test .before in
+    let at-start = loop-stage .before .before in
+    let args = at-start .args in
+    let at-loop = loop-stage .loop in
     let h = at-loop-test .loop-test .taken in
     let g = inside (c .before .before .before .before) in (
       omega arith,
       omega (arith, g),
-      omega (arith, room (ar .rows) (lp .j) (ar .c + 1) h),
-      sym (body-next _ _ _ _ _ _ _ _ _ (at-find .find .ensures .0) h (st .pre .2) g _ (taken _ _ _ (c .if2 .taken) (c .before .row-line .ensures))) ∙ lp .inv .3,
+      omega (arith, room (args .rows) (at-loop .j) (args .c + 1) h),
+      sym (body-next _ _ _ _ _ _ _ _ _ (at-find .find .ensures .0) h (at-start .pre .2) g _ (taken _ _ _ (c .if2 .taken) (c .before .row-line .ensures))) ∙ at-loop .inv .3,
     )
 
 returns-2 : tie.Need-returns-2 Inv-loop μ-loop
@@ -85,10 +85,10 @@ unfolding placed when
 returns-2 c =
     let at-find = c .before .before .before .before .before in
     let at-loop-test = at-find .before in
-    let lp = at-loop-test .before in
-    let st = lp .before .before in
-    let lp = lp .loop in (
-      sym (body-bad _ _ _ _ _ _ _ _ _ (at-find .find .ensures .0) (at-loop-test .loop-test .taken) (st .pre .2) (inside (c .before .before .before .before)) (left _ _ _ (c .if2 .left) (c .before .row-line .ensures))) ∙ lp .inv .3,
+    let loop-stage = at-loop-test .before in
+    let at-start = loop-stage .before .before in
+    let at-loop = loop-stage .loop in (
+      sym (body-bad _ _ _ _ _ _ _ _ _ (at-find .find .ensures .0) (at-loop-test .loop-test .taken) (at-start .pre .2) (inside (c .before .before .before .before)) (left _ _ _ (c .if2 .left) (c .before .row-line .ensures))) ∙ at-loop .inv .3,
       omega arith,
       omega arith,
       omega arith,
@@ -97,10 +97,10 @@ returns-2 c =
 returns-3 : tie.Need-returns-3 Inv-loop μ-loop
 unfolding placed
 returns-3 c =
-    let lp = c .before .loop in
-    let ar = c .before .before .before .args in
-    let e : lp .j ≡ ar .rows = omega arith in
-    (sym (body-end (ar .rows) (ar .c) (ar .n + lp .j) (lp .j) (drop (lp .p) (ar .text .now)) (lp .m) (lp .k) e) ∙ lp .inv .3, omega arith, omega arith, omega arith)
+    let at-loop = c .before .loop in
+    let args = c .before .before .before .args in
+    let e : at-loop .j ≡ args .rows = omega arith in
+    (sym (body-end (args .rows) (args .c) (args .n + at-loop .j) (at-loop .j) (drop (at-loop .p) (args .text .now)) (at-loop .m) (at-loop .k) e) ∙ at-loop .inv .3, omega arith, omega arith, omega arith)
 
 pub body-spec : {M : Type 1} → statement M
 body-spec =

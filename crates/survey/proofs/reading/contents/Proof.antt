@@ -15,18 +15,18 @@ inside c = omega arith
 
 returns : tie.Need-returns
 returns c =
-    let st = c .before .before .before .before in
+    let at-start = c .before .before .before .before in
     let r = c .malformed .ensures in
     let e = head-none _ _ (c .before .before .find .ensures .0) (c .before .if1 .taken) in
-    (headed-bad (c .malformed .result) (st .args .text .now) (r .0) ∙ rw (r .2) (sym e), omega arith, omega arith, omega arith, omega arith, r .3)
+    (headed-bad (c .malformed .result) (at-start .args .text .now) (r .0) ∙ rw (r .2) (sym e), omega arith, omega arith, omega arith, omega arith, r .3)
 
 returns-2 : tie.Need-returns-2
 returns-2 c =
     let at-find = c .before .before .before .before .before in
-    let st = at-find .before .before in
+    let at-start = at-find .before .before in
     let r = c .malformed2 .ensures in
     let e = head-bad _ _ (at-find .find .ensures .0) (inside (c .before .before .before .before)) _ (c .before .before .whole .ensures) (c .before .if2 .taken) in
-    (headed-bad (c .malformed2 .result) (st .args .text .now) (r .0) ∙ rw (r .2) (sym e), omega arith, omega arith, omega arith, omega arith, r .3)
+    (headed-bad (c .malformed2 .result) (at-start .args .text .now) (r .0) ∙ rw (r .2) (sym e), omega arith, omega arith, omega arith, omega arith, r .3)
 
 entries-requires : tie.Need-entries-requires
 entries-requires c κs = (omega (arith, inside (c .before .before .before)), omega arith, number-most _ _ _ (c .before .whole .ensures))

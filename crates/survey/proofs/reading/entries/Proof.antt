@@ -26,8 +26,8 @@ inside c = omega arith
 -- and it is not before where the search began
 onwards : (c : tie.Else1 Inv-loop μ-loop) → c .before .before .before .loop .p ≤ c .before .find .result
 onwards c =
-    let at-loop = c .before .before .before in
-    omega (arith, c .before .find .ensures .0, found-least 10 (at-loop .loop .p) (at-loop .before .before .args .text .now) (at-loop .loop .inv .1))
+    let loop-stage = c .before .before .before in
+    omega (arith, c .before .find .ensures .0, found-least 10 (loop-stage .loop .p) (loop-stage .before .before .args .text .now) (loop-stage .loop .inv .1))
 
 loop-holds : tie.Need-loop-holds Inv-loop μ-loop
 loop-holds c =
@@ -36,48 +36,48 @@ loop-holds c =
 
 returns : tie.Need-returns Inv-loop μ-loop
 returns c =
-    let lp = c .before .before .before .before in
-    let st = lp .before .before in
-    let lp = lp .loop in
+    let loop-stage = c .before .before .before .before in
+    let at-start = loop-stage .before .before in
+    let at-loop = loop-stage .loop in
     let r = c .malformed .ensures in
     let e = contents-none _ _ _ _ _ _ (c .before .before .find .ensures .0) (c .before .before .before .loop-test .taken) (c .before .if1 .taken) in
-    (headed-bad (c .malformed .result) (st .args .text .now) (r .0) ∙ rw (r .2) (sym e ∙ lp .inv .3), omega arith, omega arith, omega arith, omega arith, r .3)
+    (headed-bad (c .malformed .result) (at-start .args .text .now) (r .0) ∙ rw (r .2) (sym e ∙ at-loop .inv .3), omega arith, omega arith, omega arith, omega arith, r .3)
 
 returns-2 : tie.Need-returns-2 Inv-loop μ-loop
 returns-2 c =
     let at-find = c .before .before .before .before .before .before in
     let at-loop-test = at-find .before in
-    let lp = at-loop-test .before in
-    let st = lp .before .before in
-    let lp = lp .loop in
+    let loop-stage = at-loop-test .before in
+    let at-start = loop-stage .before .before in
+    let at-loop = loop-stage .loop in
     let r = c .malformed2 .ensures in
     let e = contents-bad _ _ _ _ _ _ (at-find .find .ensures .0) (at-loop-test .loop-test .taken) (inside (c .before .before .before .before .before)) _ (c .before .before .before .entry-line .ensures) (c .before .if2 .taken) in
-    (headed-bad (c .malformed2 .result) (st .args .text .now) (r .0) ∙ rw (r .2) (sym e ∙ lp .inv .3), omega arith, omega arith, omega arith, omega arith, r .3)
+    (headed-bad (c .malformed2 .result) (at-start .args .text .now) (r .0) ∙ rw (r .2) (sym e ∙ at-loop .inv .3), omega arith, omega arith, omega arith, omega arith, r .3)
 
 loop-again : tie.Need-loop-again Inv-loop μ-loop
 loop-again c =
     let at-find = c .before .before .before .before .before in
     let at-loop-test = at-find .before in
-    let lp = at-loop-test .before in
-    let lp = lp .loop in
+    let loop-stage = at-loop-test .before in
+    let at-loop = loop-stage .loop in
     let g = inside (c .before .before .before .before) in
-    let n : lp .i < length (lp .es) = omega arith in
+    let n : at-loop .i < length (at-loop .es) = omega arith in
     let e = contents-next _ _ _ _ _ _ (at-find .find .ensures .0) (at-loop-test .loop-test .taken) g _ (c .before .before .entry-line .ensures) (c .if2 .left) n in
-    (omega arith, omega (arith, g), simp length-set (lp .inv .2), sym e ∙ lp .inv .3)
+    (omega arith, omega (arith, g), simp length-set (at-loop .inv .2), sym e ∙ at-loop .inv .3)
 
 returns-3 : tie.Need-returns-3 Inv-loop μ-loop
 returns-3 c =
-    let lp = c .before .loop in
-    let st = c .before .before .before in
-    let t = st .args .text .now in
-    let ct = st .args .count in
-    let e : lp .i ≡ ct = omega arith in (
-      headed-got (record { es = lp .es; count = ct; at = lp .p; line = lp .i + 2 }) t (st .pre .1) ∙ sym (contents-end ct (lp .i) (lp .i + 2) (lp .es) (drop (lp .p) t) e) ∙ lp .inv .3,
-      lp .inv .1,
-      st .pre .2,
+    let at-loop = c .before .loop in
+    let at-start = c .before .before .before in
+    let t = at-start .args .text .now in
+    let count = at-start .args .count in
+    let e : at-loop .i ≡ count = omega arith in (
+      headed-got (record { es = at-loop .es; count = count; at = at-loop .p; line = at-loop .i + 2 }) t (at-start .pre .1) ∙ sym (contents-end count (at-loop .i) (at-loop .i + 2) (at-loop .es) (drop (at-loop .p) t) e) ∙ at-loop .inv .3,
+      at-loop .inv .1,
+      at-start .pre .2,
       omega arith,
       omega arith,
-      lp .inv .2,
+      at-loop .inv .2,
     )
 
 pub entries-spec : {M : Type 1} → statement M

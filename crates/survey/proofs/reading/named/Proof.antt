@@ -25,22 +25,22 @@ loop-holds c = (omega arith, refl)
 
 returns : tie.Need-returns Inv-loop μ-loop
 returns c =
-    let st = c .before .before .before .before .before in
-    let lp = c .before .before .before .before .loop in
-    sym (named-here _ _ _ _ (c .before .before .before .loop-test .taken) (len st) (c .if1 .taken)) ∙ lp .inv .1
+    let at-start = c .before .before .before .before .before in
+    let at-loop = c .before .before .before .before .loop in
+    sym (named-here _ _ _ _ (c .before .before .before .loop-test .taken) (len at-start) (c .if1 .taken)) ∙ at-loop .inv .1
 
 loop-again : tie.Need-loop-again Inv-loop μ-loop
 loop-again c =
-    let st = c .before .before .before .before .before in
-    let lp = c .before .before .before .before .loop in
-    (omega arith, sym (named-next _ _ _ _ (c .before .before .before .loop-test .taken) (len st) (c .if1 .left)) ∙ lp .inv .1)
+    let at-start = c .before .before .before .before .before in
+    let at-loop = c .before .before .before .before .loop in
+    (omega arith, sym (named-next _ _ _ _ (c .before .before .before .loop-test .taken) (len at-start) (c .if1 .left)) ∙ at-loop .inv .1)
 
 returns-2 : tie.Need-returns-2 Inv-loop μ-loop
 returns-2 c =
-    let st = c .before .before in
-    let lp = c .before .loop in
-    let e : lp .i ≡ st .args .k = omega arith in
-    sym (named-end _ _ _ _ (len st) e) ∙ lp .inv .1
+    let at-start = c .before .before in
+    let at-loop = c .before .loop in
+    let e : at-loop .i ≡ at-start .args .k = omega arith in
+    sym (named-end _ _ _ _ (len at-start) e) ∙ at-loop .inv .1
 
 pub named-spec : {M : Type 1} → statement M
 named-spec =

@@ -24,8 +24,8 @@ inside c = omega arith
 -- and it is not before where the search began
 onwards : (c : tie.Else1 Inv-loop μ-loop) → c .before .before .before .loop .p ≤ c .before .find .result
 onwards c =
-    let at-loop = c .before .before .before in
-    omega (arith, c .before .find .ensures .0, found-least 32 (at-loop .loop .p) (at-loop .before .before .args .l .now) (at-loop .loop .inv .1))
+    let loop-stage = c .before .before .before in
+    omega (arith, c .before .find .ensures .0, found-least 32 (loop-stage .loop .p) (loop-stage .before .before .args .l .now) (loop-stage .loop .inv .1))
 
 loop-holds : tie.Need-loop-holds Inv-loop μ-loop
 loop-holds c =
@@ -38,9 +38,9 @@ loop-holds c =
 returns : tie.Need-returns Inv-loop μ-loop
 unfolding when
 returns c =
-    let fd = c .before in
-    let lp = c .before .before .before .loop in
-    sym (row-none _ _ _ _ _ _ _ (fd .find .ensures .0) (fd .before .loop-test .taken) (c .if1 .taken)) ∙ lp .inv .2 ∙ row-stored _ _ _ _
+    let at-find = c .before in
+    let at-loop = c .before .before .before .loop in
+    sym (row-none _ _ _ _ _ _ _ (at-find .find .ensures .0) (at-find .before .loop-test .taken) (c .if1 .taken)) ∙ at-loop .inv .2 ∙ row-stored _ _ _ _
 
 enum-told : tie.Need-enum-told Inv-loop μ-loop
 enum-told c = search needs
@@ -48,45 +48,45 @@ enum-told c = search needs
 returns-2 : tie.Need-returns-2 Inv-loop μ-loop
 unfolding when
 returns-2 c =
-    let fd = c .before .before .before .before .before in
-    let lp = fd .before .before .loop in
-    sym (row-bad _ _ _ _ _ _ _ (fd .find .ensures .0) (fd .before .loop-test .taken) (inside (c .before .before .before .before)) (is-none _ (sym (c .enum-told .given .1) ∙ c .before .before .pattern .ensures)))
-    ∙ lp .inv .2 ∙ row-stored _ _ _ _
+    let at-find = c .before .before .before .before .before in
+    let at-loop = at-find .before .before .loop in
+    sym (row-bad _ _ _ _ _ _ _ (at-find .find .ensures .0) (at-find .before .loop-test .taken) (inside (c .before .before .before .before)) (is-none _ (sym (c .enum-told .given .1) ∙ c .before .before .pattern .ensures)))
+    ∙ at-loop .inv .2 ∙ row-stored _ _ _ _
 
 loop-again : tie.Need-loop-again Inv-loop μ-loop
 loop-again c =
     let at-pattern = c .before .before .before .before in
-    let fd = c .before .before .before .before .before .before .before in
-    let lp = fd .before .before .loop in
+    let at-find = c .before .before .before .before .before .before .before in
+    let at-loop = at-find .before .before .loop in
     let h = inside (c .before .before .before .before .before .before) in (
       omega arith,
       omega (arith, h),
-      rw (c .from-bits .ensures) (sym (row-next _ _ _ _ _ _ _ (fd .find .ensures .0) (fd .before .loop-test .taken) _ h (is-some _ _ (sym (c .before .before .b .given .1) ∙ at-pattern .pattern .ensures)))
-          ∙ lp .inv .2),
+      rw (c .from-bits .ensures) (sym (row-next _ _ _ _ _ _ _ (at-find .find .ensures .0) (at-find .before .loop-test .taken) _ h (is-some _ _ (sym (c .before .before .b .given .1) ∙ at-pattern .pattern .ensures)))
+          ∙ at-loop .inv .2),
     )
 
 returns-3 : tie.Need-returns-3 Inv-loop μ-loop
 unfolding when
 returns-3 c =
     let at-pattern2 = c .before .before .before .before in
-    let lp = at-pattern2 .before .before .before in
-    let st = lp .before .before in
-    let lp = lp .loop in
-    let ar = st .args in
-    let e : lp .k ≡ ar .c = omega arith in
-    rw (c .from-bits2 .ensures) (sym (row-last (ar .l .now) (ar .c) (lp .k) (lp .p) (ar .at) (lp .m) e _ (is-some _ _ (sym (c .before .before .b2 .given .1) ∙ at-pattern2 .pattern2 .ensures)))
-    ∙ lp .inv .2 ∙ row-stored _ _ _ _)
+    let loop-stage = at-pattern2 .before .before .before in
+    let at-start = loop-stage .before .before in
+    let at-loop = loop-stage .loop in
+    let args = at-start .args in
+    let e : at-loop .k ≡ args .c = omega arith in
+    rw (c .from-bits2 .ensures) (sym (row-last (args .l .now) (args .c) (at-loop .k) (at-loop .p) (args .at) (at-loop .m) e _ (is-some _ _ (sym (c .before .before .b2 .given .1) ∙ at-pattern2 .pattern2 .ensures)))
+    ∙ at-loop .inv .2 ∙ row-stored _ _ _ _)
 
 returns-4 : tie.Need-returns-4 Inv-loop μ-loop
 unfolding when
 returns-4 c =
-    let lp = c .before .before .before .before .before in
-    let st = lp .before .before in
-    let lp = lp .loop in
-    let ar = st .args in
-    let e : lp .k ≡ ar .c = omega arith in
-    sym (row-last-bad (ar .l .now) (ar .c) (lp .k) (lp .p) (ar .at) (lp .m) e (is-none _ (sym (c .enum-told2 .given .1) ∙ c .before .before .pattern2 .ensures)))
-    ∙ lp .inv .2 ∙ row-stored _ _ _ _
+    let loop-stage = c .before .before .before .before .before in
+    let at-start = loop-stage .before .before in
+    let at-loop = loop-stage .loop in
+    let args = at-start .args in
+    let e : at-loop .k ≡ args .c = omega arith in
+    sym (row-last-bad (args .l .now) (args .c) (at-loop .k) (at-loop .p) (args .at) (at-loop .m) e (is-none _ (sym (c .enum-told2 .given .1) ∙ c .before .before .pattern2 .ensures)))
+    ∙ at-loop .inv .2 ∙ row-stored _ _ _ _
 
 pub row-line-spec : {M : Type 1} → statement M
 row-line-spec =

@@ -21,39 +21,39 @@ abbrev μ-loop : tie.MeasureT-loop
 
 loop-holds : tie.Need-loop-holds Inv-loop μ-loop
 loop-holds c =
-    let ar = c .before .before .args in
-    let y : ar .c - 0 ≡ ar .c = omega arith in
-    let z : ar .from + 0 ≡ ar .from = omega arith in
+    let args = c .before .before .args in
+    let y : args .c - 0 ≡ args .c = omega arith in
+    let z : args .from + 0 ≡ args .from = omega arith in
     (omega arith, refl, λ o r w. rw (y, z) at w)
 
 loop-again : tie.Need-loop-again Inv-loop μ-loop
 loop-again c =
     let at-hex = c .before .before .before .before .before .before .before .before in
-    let at-loop = c .before .before .before .before .before .before .before .before .before .before .before .before .before in
-    let at-start = at-loop .before .before .before in
-    let ar = at-start .args in
+    let loop-stage = c .before .before .before .before .before .before .before .before .before .before .before .before .before in
+    let at-start = loop-stage .before .before .before in
+    let args = at-start .args in
     let digits = hex-wrote _ _ _ _ _ _ (at-hex .before .to-bits .ensures) (at-hex .put-hex .ensures) in
     let end = wrote _ _ _ _ _ (c .before .before .put .ensures) in
-    let more = row-more (ar .m .now) (ar .from) (ar .c) (at-loop .loop .k) (c .before .before .before .before .before .before .before .before .before .before .before .before .loop-test .taken) (at-start .pre) (c .before .before .before .before .before .if1 .taken) in
-    (omega arith, end .kept ∙ digits .kept ∙ at-loop .loop .inv .1, λ o r w. at-loop .loop .inv .2 o r (rw more (then digits (then end w))))
+    let more = row-more (args .m .now) (args .from) (args .c) (loop-stage .loop .k) (c .before .before .before .before .before .before .before .before .before .before .before .before .loop-test .taken) (at-start .pre) (c .before .before .before .before .before .if1 .taken) in
+    (omega arith, end .kept ∙ digits .kept ∙ loop-stage .loop .inv .1, λ o r w. loop-stage .loop .inv .2 o r (rw more (then digits (then end w))))
 
 loop-again-2 : tie.Need-loop-again-2 Inv-loop μ-loop
 loop-again-2 c =
     let at-hex = c .before .before .before .before .before .before .before .before in
-    let at-loop = c .before .before .before .before .before .before .before .before .before .before .before .before .before in
-    let at-start = at-loop .before .before .before in
-    let ar = at-start .args in
+    let loop-stage = c .before .before .before .before .before .before .before .before .before .before .before .before .before in
+    let at-start = loop-stage .before .before .before in
+    let args = at-start .args in
     let digits = hex-wrote _ _ _ _ _ _ (at-hex .before .to-bits .ensures) (at-hex .put-hex .ensures) in
     let end = wrote _ _ _ _ _ (c .before .before .put2 .ensures) in
-    let more = row-last (ar .m .now) (ar .from) (ar .c) (at-loop .loop .k) (c .before .before .before .before .before .before .before .before .before .before .before .before .loop-test .taken) (at-start .pre) (c .before .before .before .before .before .if1 .left) in
-    (omega arith, end .kept ∙ digits .kept ∙ at-loop .loop .inv .1, λ o r w. at-loop .loop .inv .2 o r (rw more (then digits (then end w))))
+    let more = row-last (args .m .now) (args .from) (args .c) (loop-stage .loop .k) (c .before .before .before .before .before .before .before .before .before .before .before .before .loop-test .taken) (at-start .pre) (c .before .before .before .before .before .if1 .left) in
+    (omega arith, end .kept ∙ digits .kept ∙ loop-stage .loop .inv .1, λ o r w. loop-stage .loop .inv .2 o r (rw more (then digits (then end w))))
 
 returns : tie.Need-returns Inv-loop μ-loop
 returns c =
     let at-loop = c .before .loop in
-    let ar = c .before .before .before .before .args in
-    let e : at-loop .k ≡ ar .c = omega arith in
-    let d = row-done (drop (ar .from + at-loop .k) (ar .m .now)) (ar .c) (at-loop .k) e in
+    let args = c .before .before .before .before .args in
+    let e : at-loop .k ≡ args .c = omega arith in
+    let d = row-done (drop (args .from + at-loop .k) (args .m .now)) (args .c) (at-loop .k) e in
     at-loop .inv .2 _ _ (rw d (nothing (at-loop .out) (at-loop .q)))
 
 pub put-row-spec : {M : Type 1} → statement M

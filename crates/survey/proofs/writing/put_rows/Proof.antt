@@ -22,39 +22,39 @@ abbrev μ-loop : tie.MeasureT-loop
 
 loop-holds : tie.Need-loop-holds Inv-loop μ-loop
 loop-holds c =
-    let ar = c .before .before .args in
-    let y : ar .r - 0 ≡ ar .r = omega arith in
-    let z : 0 * ar .c ≡ 0 = zero-mul (ar .c) in
+    let args = c .before .before .args in
+    let y : args .r - 0 ≡ args .r = omega arith in
+    let z : 0 * args .c ≡ 0 = zero-mul (args .c) in
     (omega arith, sym z, refl, λ o e w. rw (y, z) at w)
 
 put-row-requires : tie.Need-put-row-requires Inv-loop μ-loop
 put-row-requires c κs =
-    let ar = c .before .before .before .before .before .args in
-    omega (arith, times-below (c .before .before .loop .j) (ar .r) (ar .c) (c .before .loop-test .taken))
+    let args = c .before .before .before .before .before .args in
+    omega (arith, times-below (c .before .before .loop .j) (args .r) (args .c) (c .before .loop-test .taken))
 
 add-from : tie.Need-add-from Inv-loop μ-loop
 add-from c =
-    let ar = c .before .before .before .before .before .before .before .before .args in
-    omega (arith, times-below (c .before .before .before .before .before .loop .j) (ar .r) (ar .c) (c .before .before .before .before .loop-test .taken))
+    let args = c .before .before .before .before .before .before .before .before .args in
+    omega (arith, times-below (c .before .before .before .before .before .loop .j) (args .r) (args .c) (c .before .before .before .before .loop-test .taken))
 
 loop-again : tie.Need-loop-again Inv-loop μ-loop
 loop-again c =
-    let ar = c .before .before .before .before .before .before .before .before .args in
+    let args = c .before .before .before .before .before .before .before .before .args in
     let at-loop = c .before .before .before .before .before .loop in
     let row = rw (at-loop .inv .1) at (c .before .before .put-row .ensures) in
-    let next = rows-next (ar .r) (ar .c) (at-loop .j) (ar .m .now) (c .before .before .before .before .loop-test .taken) in (
+    let next = rows-next (args .r) (args .c) (at-loop .j) (args .m .now) (c .before .before .before .before .loop-test .taken) in (
       omega arith,
-      omega (arith, times-next (at-loop .j) (ar .c)),
+      omega (arith, times-next (at-loop .j) (args .c)),
       row .kept ∙ at-loop .inv .2,
       λ o e w. at-loop .inv .3 o e (rw next (then row w)),
     )
 
 returns : tie.Need-returns Inv-loop μ-loop
 returns c =
-    let ar = c .before .before .before .before .args in
+    let args = c .before .before .before .before .args in
     let at-loop = c .before .loop in
-    let e : at-loop .j ≡ ar .r = omega arith in
-    let d = rows-end (ar .r) (ar .c) (at-loop .j) (drop (at-loop .j * ar .c) (ar .m .now)) e in
+    let e : at-loop .j ≡ args .r = omega arith in
+    let d = rows-end (args .r) (args .c) (at-loop .j) (drop (at-loop .j * args .c) (args .m .now)) e in
     at-loop .inv .3 _ _ (rw d (nothing (at-loop .out) (at-loop .q)))
 
 pub put-rows-spec : {M : Type 1} → statement M

@@ -61,8 +61,8 @@ loop-again c =
 returns-4 : tie.Need-returns-4 Inv-loop μ-loop
 returns-4 c =
     let at-loop = c .before .loop in
-    let ar = c .before .before .before .before .args in
-    rw (numeral-end (ar .base) (at-loop .v) (ar .l .now) (at-loop .i) (at-loop .inv .1) (at-loop .inv .3) (omega arith) (at-loop .inv .2))
+    let args = c .before .before .before .before .args in
+    rw (numeral-end (args .base) (at-loop .v) (args .l .now) (at-loop .i) (at-loop .inv .1) (at-loop .inv .3) (omega arith) (at-loop .inv .2))
 
 pub value-spec : {M : Type 1} → statement M
 value-spec =

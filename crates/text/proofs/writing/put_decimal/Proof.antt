@@ -11,7 +11,7 @@ use Rattle.text.proofs.writing.put_decimal.Statement.{statement}
 use Rattle.text.proofs.writing.put_decimal.Tie as tie
 
 fits : (c : tie.Then1)
-    → let at-places = c .before .before in let ar = at-places .before .before .args in ar .at + at-places .places .result ≤ length (ar .out .now)
+    → let at-places = c .before .before in let args = at-places .before .before .args in args .at + at-places .places .result ≤ length (args .out .now)
 fits c = leb-true _ _ (sym (c .before .room .ensures) ∙ c .if1 .taken)
 
 returns : tie.Need-returns

@@ -12,17 +12,17 @@ use Rattle.text.proofs.writing.put_field.Statement.{statement}
 use Rattle.text.proofs.writing.put_field.Tie as tie
 
 fits : (c : tie.Then1)
-    → let at-places = c .before .before in let ar = at-places .before .before .args in ar .at + (at-places .places .result + 1) ≤ length (ar .out .now)
+    → let at-places = c .before .before in let args = at-places .before .before .args in args .at + (at-places .places .result + 1) ≤ length (args .out .now)
 fits c = leb-true _ _ (sym (c .before .room .ensures) ∙ c .if1 .taken)
 
 returns : tie.Need-returns
 returns c =
     let at-then = c .before .before .before .before in
     let at-places = at-then .before .before in
-    let ar = at-places .before .before .args in
+    let args = at-places .before .before .args in
     let e = ap (λ k. k + 1) (at-places .places .ensures) in
-    let s = field-stored (ar .at) _ (ar .n) (ar .out .now) _ e (c .before .before .store-digits .ensures) in
-    put-room _ _ _ _ (length-field _ (ar .n) e) _ s (sym (at-then .before .room .ensures) ∙ at-then .if1 .taken)
+    let s = field-stored (args .at) _ (args .n) (args .out .now) _ e (c .before .before .store-digits .ensures) in
+    put-room _ _ _ _ (length-field _ (args .n) e) _ s (sym (at-then .before .room .ensures) ∙ at-then .if1 .taken)
 
 returns-2 : tie.Need-returns-2
 returns-2 c =

@@ -11,7 +11,7 @@ returns : tie.Need-returns
 returns c = room-left _ _ _ (c .if1 .taken)
 
 returns-2 : tie.Need-returns-2
-returns-2 c = let ar = c .before .args in sym (lt-leb (ar .at + ar .k) (ar .n) (omega arith))
+returns-2 c = let args = c .before .args in sym (lt-leb (args .at + args .k) (args .n) (omega arith))
 
 pub room-spec : {M : Type 1} → statement M
 room-spec = tie.close (tie.spec returns returns-2)

@@ -28,9 +28,9 @@ loop-again c =
 returns : tie.Need-returns Inv-loop μ-loop
 returns c =
     let at-loop = c .before .loop in
-    let ar = c .before .before .args in
-    let e : at-loop .i ≡ length (ar .s .now) = omega arith in
-    sym (sets-end (ar .s .now) (at-loop .out) (ar .at + at-loop .i) (at-loop .i) e) ∙ at-loop .inv .2
+    let args = c .before .before .args in
+    let e : at-loop .i ≡ length (args .s .now) = omega arith in
+    sym (sets-end (args .s .now) (at-loop .out) (args .at + at-loop .i) (at-loop .i) e) ∙ at-loop .inv .2
 
 pub store-spec : {M : Type 1} → statement M
 store-spec =

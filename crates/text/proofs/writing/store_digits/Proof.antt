@@ -29,17 +29,17 @@ digit-requires c κs =
 
 loop-again : tie.Need-loop-again Inv-loop μ-loop
 loop-again c =
-    let ar = c .before .before .before .before .args in
+    let args = c .before .before .before .before .args in
     let at-loop = c .before .before .loop in
-    let e = digits-next (at-loop .out) (ar .at) (ar .base) (at-loop .j) (at-loop .rest) (c .before .loop-test .taken) in
+    let e = digits-next (at-loop .out) (args .at) (args .base) (at-loop .j) (at-loop .rest) (c .before .loop-test .taken) in
     (omega arith, simp length-set (at-loop .inv .1), rw (c .digit .ensures) (sym e ∙ at-loop .inv .2))
 
 returns : tie.Need-returns Inv-loop μ-loop
 returns c =
-    let ar = c .before .before .before .args in
+    let args = c .before .before .before .args in
     let at-loop = c .before .loop in
     let e : at-loop .j ≡ 0 = omega arith in
-    digits-none (at-loop .out) (ar .at) (ar .base) (at-loop .rest) (at-loop .j) e ∙ at-loop .inv .2
+    digits-none (at-loop .out) (args .at) (args .base) (at-loop .rest) (at-loop .j) e ∙ at-loop .inv .2
 
 pub store-digits-spec : {M : Type 1} → statement M
 store-digits-spec =

@@ -1,5 +1,5 @@
--- What the plain call at default settings can say of a survey: it accepts, or it refuses by 8 with the place of the first reading that is not finite. Its
--- numbers have few digits. Assumes nothing.
+-- What the plain call at default settings can say of a survey: it accepts, or it refuses by 8 with the place of the
+-- first reading that is not finite. Its numbers have few digits. Assumes nothing.
 use mathlib.Core.Path.{_≡_, refl, sym, subst, _∙_}
 use mathlib.Core.Bool.{Bool, true, false, true≢false, false≢true}
 use mathlib.Core.Logic.{⊎-elim}
@@ -102,14 +102,16 @@ module _ (rows cols : ℕ) (xs : List Float) (t : Table rows cols xs) where
   lengths-fit = (λ z. z (t .size), (λ z. false≢true (z .0), (λ z. false≢true (z .0), tt)))
 
   -- where every reading is finite the call accepts,
-  pub accepts : ((k : ℕ) → k < length xs → finite (getD xs k nan) ≡ true) → plainOutcome binary64 rows cols defaults xs ≡ accepted binary64 false rows cols defaults given
+  pub accepts : ((k : ℕ) → k < length xs → finite (getD xs k nan) ≡ true)
+      → plainOutcome binary64 rows cols defaults xs ≡ accepted binary64 false rows cols defaults given
   accepts all =
       let no : BadReading xs → ⊥ = λ b. true≢false (sym (all (b .at) (b .inside)) ∙ b .bad) in
       accepted-outcome binary64 false rows cols defaults given (clear false rows cols defaults given .1
       record { sizes = (fit-size, (fit-large, tt)); lengths = lengths-fit; settings = (fit-limit, (fit-bounds, tt)); readings = (no, tt) })
 
   -- and where one is not, it refuses by 8 with the place of the first, and leaves the readings as they were
-  pub refuses : (p : ℕ) → FirstBadAt xs p → plainOutcome binary64 rows cols defaults xs ≡ outcomeOf (refused (refusal 8 p)) given
+  pub refuses : (p : ℕ) → FirstBadAt xs p
+      → plainOutcome binary64 rows cols defaults xs ≡ outcomeOf (refused (refusal 8 p)) given
   refuses p b =
       let n : why .number ≡ 8 =
       eight-given false rows cols defaults given (fit-size, (fit-large, tt)) lengths-fit (fit-limit, (fit-bounds, tt))
