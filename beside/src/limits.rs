@@ -94,7 +94,7 @@ fn line(case: &str) -> String {
     let parts: Vec<&str> = case.split("; ").collect();
     let run = run_of(&parts[1..]);
     let reply = run.reply(run.kept);
-    let [number, place, word, counts @ ..] = reply.report;
+    let [number, place, word, counts @ ..] = reply.report.words();
     let word = ["none", "settled", "stopped"][word as usize];
     let counts = counts.map(|count| count.to_string()).join(" ");
     let mut text = format!("{}: {number} {place} {word} {counts}\n", parts[0]);
