@@ -1,6 +1,7 @@
 // One run: the lists are read, the calls made, and what they answer and leave is compared.
 use crate::bits::copy;
 use crate::bits::same;
+use crate::stored::Answer;
 use crate::stored::Found;
 use crate::stored::Head;
 use crate::stored::begin;
@@ -66,7 +67,7 @@ fn judged(head: Head, differ: u64, report: Report) -> Made {
 }
 
 // The plain call on b, which is to leave what b2 holds.
-fn plain(b: &mut [f64], b2: &[f64], head: Head, answer: &[u8; 56]) -> Call {
+fn plain(b: &mut [f64], b2: &[f64], head: Head, answer: &Answer) -> Call {
     let settings = head.settings;
     let report = svd_decomposition(b, head.rows, head.cols, settings);
     let agrees = report_agrees(report, answer) && same(b, b2);
@@ -74,7 +75,7 @@ fn plain(b: &mut [f64], b2: &[f64], head: Head, answer: &[u8; 56]) -> Call {
 }
 
 // Whether the plain call on a copy of b, in c, gives the stored report and leaves what b2 holds.
-fn copy_agrees(b: &[f64], c: &mut [f64], b2: &[f64], head: Head, answer: &[u8; 56]) -> bool
+fn copy_agrees(b: &[f64], c: &mut [f64], b2: &[f64], head: Head, answer: &Answer) -> bool
     requires { ⌜ length (now b) ≡ length (now c) ⌝ }
 {
     copy(b, c);
@@ -84,7 +85,7 @@ fn copy_agrees(b: &[f64], c: &mut [f64], b2: &[f64], head: Head, answer: &[u8; 5
 
 // Whether the plain call gives the stored report and matrix too. It has no numbers 4 and 5: where
 // one of them is stored, it is not made.
-fn plain_agrees(b: &[f64], b2: &[f64], head: Head, answer: &[u8; 56]) -> bool {
+fn plain_agrees(b: &[f64], b2: &[f64], head: Head, answer: &Answer) -> bool {
     let number = number_in(answer);
     if number == 4 || number == 5 {
         return true;
@@ -107,7 +108,7 @@ fn calls(
     u2: &[f64],
     v2: &[f64],
     head: Head,
-    answer: &[u8; 56],
+    answer: &Answer,
 ) -> Made {
     if head.kept == 0 {
         let call = plain(b, b2, head, answer);
@@ -123,7 +124,7 @@ fn calls(
 
 // Reads what the lists are to be afterwards; of a refused call they are to be as they are. Whether
 // it is there.
-fn read_after(b2: &mut [f64], u2: &mut [f64], v2: &mut [f64], answer: &[u8; 56]) -> bool {
+fn read_after(b2: &mut [f64], u2: &mut [f64], v2: &mut [f64], answer: &Answer) -> bool {
     if number_in(answer) != 0 {
         return true;
     }

@@ -30,6 +30,9 @@ pub(crate) struct Head {
     pub(crate) differ: u64,
 }
 
+// The words of a report as they are stored, which are seven: `words_of` lists them.
+pub(crate) type Answer = [u8; 56];
+
 // What was found where a head should be.
 pub(crate) enum Found {
     End,
@@ -97,12 +100,12 @@ fn words_of(r: Report) -> [u64; 7] {
 }
 
 // The refusal's number in an answer.
-pub(crate) fn number_in(answer: &[u8; 56]) -> u64 {
+pub(crate) fn number_in(answer: &Answer) -> u64 {
     word(answer, 0)
 }
 
 // Whether the report's words are the answer's.
-pub(crate) fn report_agrees(report: Report, answer: &[u8; 56]) -> bool {
+pub(crate) fn report_agrees(report: Report, answer: &Answer) -> bool {
     let words = words_of(report);
     let mut i = 0;
     while i < 7 {
@@ -141,7 +144,7 @@ pub(crate) fn read_head() -> Found {
 }
 
 // Reads the next answer; whether it is there.
-pub(crate) fn read_answer(answer: &mut [u8; 56]) -> bool {
+pub(crate) fn read_answer(answer: &mut Answer) -> bool {
     io::read_full(0, answer) == 56
 }
 

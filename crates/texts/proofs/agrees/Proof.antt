@@ -17,9 +17,5 @@ pub agrees-spec : {M : Type 1} → statement M
 agrees-spec =
     tie.close
     (tie.spec
-    (λ c κs. search needs)
-    (λ c κs. search needs)
-    (λ c. inside c)
-    (λ c. sym (length-take-le _ _ (inside (c .before))))
-    (λ c κs. search needs)
-    (λ c. search needs))
+    (λ c κs. search needs) (λ c κs. search needs) (λ c. inside c) (λ c. sym (length-take-le _ _ (inside (c .before))))
+    (λ c κs. search needs) (λ c. search needs))

@@ -1,4 +1,4 @@
--- `vectors::main` meets its contract. Nothing has to hold from turn to turn; the measure is how many are left. Assumes nothing.
+-- `vectors::main` meets its contract: nothing has to hold from turn to turn, and the measure is how many turns are left. Assumes nothing.
 use borrow.Author.Needs.{needs}
 use Rattle.vectors.proofs.main.Statement.{statement}
 use Rattle.vectors.proofs.main.Tie as tie
@@ -13,13 +13,6 @@ pub main-spec : {M : Type 1} → statement M
 main-spec =
     tie.close
     (tie.spec
-    Inv-loop
-    μ-loop
-    (λ c κs. search needs)
-    (λ c. tt)
-    (λ c κs. search needs)
-    (λ c. search needs)
-    (λ c. search needs)
-    (λ c. tt)
-    (λ c κs. search needs)
-    (λ c. search needs))
+    Inv-loop μ-loop
+    (λ c κs. search needs) (λ c. tt) (λ c κs. search needs) (λ c. search needs) (λ c. search needs) (λ c. tt)
+    (λ c κs. search needs) (λ c. search needs))
