@@ -18,6 +18,7 @@ none = record { right = 0; differ = 0; wrong = 0; found = 0 }
 -- with one row more: whether it is wrong on purpose, and whether it agrees
 abbrev pub counted : Score → Bool → Bool → Score
 counted s false true = record { right = more (s .right); differ = s .differ; wrong = s .wrong; found = s .found }
-counted s false false = record { right = more (s .right); differ = more (s .differ); wrong = s .wrong; found = s .found }
+counted s false false =
+    record { right = more (s .right); differ = more (s .differ); wrong = s .wrong; found = s .found }
 counted s true true = record { right = s .right; differ = s .differ; wrong = more (s .wrong); found = s .found }
 counted s true false = record { right = s .right; differ = s .differ; wrong = more (s .wrong); found = more (s .found) }

@@ -7,11 +7,11 @@ use Prim.Native.Nat.{ℕ, zero, suc, _+_, _-_, _*_, _<_, _≤_}
 use native.Mathlib.Omega.{arith}
 use native.Mathlib.Nat.{zero-mul, suc-mul}
 use lib.Dec.{T}
-use lib.Ieee.{Float, binary64, fits, ofBits, toBits}
+use lib.Ieee.{Float, nan, binary64, fits, ofBits, toBits}
 use lib.Ieee.Bits.{ofBits-toBits, toBits-lt, ofBits-fits}
 use lib.ListN.{length, take, drop, length-drop, length-map, take-append-drop}
 use lib.Seq.{length-take-le}
-use Rattle.text.specs.Text.{Bytes, LF, space, _>>=_, when, pattern, shown, ending, lineText}
+use Rattle.text.specs.Text.{Bytes, LF, space, _>>=_, when, pattern, digit, digits, shown, ending, lineText}
 use Rattle.survey.specs.declared.reading.Entry.{Entry}
 use Rattle.survey.specs.Form.{countLine, rowLine, entryLine, named, got, line, andThen, contents, body, bodies, head, reading, Survey}
 use Rattle.survey.specs.Found.{InRange, short-some}
@@ -26,6 +26,13 @@ use Rattle.text.specs.Round.{pattern-round, digits-free, number-round, shown-fr
 pub hex-pattern : (x : Float) → T (fits binary64 x) → pattern (hex x) ≡ some (toBits binary64 x)
 unfolding hex
 hex-pattern x f = pattern-round (toBits binary64 x) (toBits-lt binary64 x f)
+
+-- every NaN is printed as 7FF8000000000000
+pub hex-nan :
+    hex nan ≡
+    55 ∷ 70 ∷ 70 ∷ 56 ∷ 48 ∷ 48 ∷ 48 ∷ 48 ∷ 48 ∷ 48 ∷ 48 ∷ 48 ∷ 48 ∷ 48 ∷ 48 ∷ 48 ∷ []
+unfolding hex digits digit toBits
+hex-nan = refl
 
 pub hex-round : (x : Float) → T (fits binary64 x) → (pattern (hex x) >>= λ p. some (ofBits binary64 p)) ≡ some x
 unfolding _>>=_

@@ -62,7 +62,9 @@ kept-lent true n a h e = record { few = h; whole = le-of-eq (sym (e refl)) }
 kept-lent false n a h e = record { few = zero-le; whole = rw zero-mul zero-le }
 
 -- and so do the packed table and both factors
-pub fit-lending : (kept : Bool) (rows cols : ℕ) (s : Settings) (w : Work) → Fit kept rows cols s w → Lending (packed kept rows cols) w
+pub fit-lending :
+    (kept : Bool) (rows cols : ℕ) (s : Settings) (w : Work) →
+    Fit kept rows cols s w → Lending (packed kept rows cols) w
 fit-lending kept rows cols s w f =
     record {
       table =

@@ -1,7 +1,8 @@
--- The three demands, as theorems of the two calls: on every input, of whatever a call's promise allows it to report and
--- to leave in what it was lent. (That every call ends, without a fault, is what the checker shows of all code.) First the
--- statements, `Demand1` to `Demand3`, then that they hold of every answer, and the two laws of two calls. They lean on the
--- definition: `outcome`, `accepted` (method's Outcome), and on the list `meanings` (method's Checks.Table). Assumes nothing.
+-- The three demands, as theorems of the two calls: on every input, of whatever a call's promise allows it to report
+-- and to leave in what it was lent. (That every call ends, without a fault, is what the checker shows of all code.)
+-- First the statements, `Demand1` to `Demand3`, then that they hold of every answer, and the two laws of two calls. They
+-- lean on the definition: `outcome`, `accepted` (method's Outcome), and the list `meanings` (method's Checks.Table).
+-- Assumes nothing.
 use mathlib.Core.Path.{_≡_, sym, ap, _∙_}
 use mathlib.Core.Logic.{_↔_}
 use mathlib.Core.Bool.{Bool, true, false}

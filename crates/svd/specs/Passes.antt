@@ -14,11 +14,11 @@ use Rattle.method.specs.Walk.Counts.{walked-same, enough-most}
 use Rattle.method.specs.Walk.Run.{Going, narrow, spent}
 use Rattle.method.specs.Walk.Loop.{Room, Made, made-none, made-drop, made-sweep, made-moved, made-room, made-all, made-end}
 use Rattle.method.specs.Positions.{Corner, Placed, cornerOf, cornerDropped, start-placed, dropped-placed}
-use Rattle.method.specs.Outcome.{rulesOf, card, isUpper, walkedFrom}
-use Rattle.method.specs.Settings.{Settings, mostSize, mostLimit, mostCredit, mostPasses}
+use Rattle.method.specs.Outcome.{rulesOf, card, isUpper, walkedFrom, rulesFor}
+use Rattle.method.specs.Settings.{Settings, mostSize, mostStride, mostLimit, mostCredit, mostPasses}
 use Rattle.method.specs.Bidiagonal.{bidiagonal}
 use lib.Dec.{lit<}
-use Rattle.svd.specs.Values.{walkOf, cornerIn, mostStride, Lending, lending-kept, Inside, Block}
+use Rattle.svd.specs.Values.{walkOf, cornerIn, Lending, lending-kept, Inside, Block}
 use Rattle.svd.specs.declared.primitives.Walk.{Walk}
 
 -- a record from which n passes may be asked: its range lies in the table, its corner is that of the range, and its counts
@@ -57,15 +57,18 @@ ranges w e = ap (λ (k : Walk.Walk). k .tally .range) e
 -- ---- the loop
 
 -- after `made` turns the lists have their lengths, the places are those of the range, and as many passes have been made
-pub record Inv (z : Sizes) (upper : Bool) (n : ℕ) (s : Settings) (first : Walk) (start : Work) (now : Work) (w : Walk) (made : ℕ) : Type 0 where
+pub record Inv (z : Sizes) (upper : Bool) (n : ℕ) (s : Settings) (first : Walk) (start now : Work) (w : Walk) (made : ℕ) :
+    Type 0 where
   pub same : SameLengths start now
   pub within : made ≤ n
   pub placed : Placed upper (z .stride) (w .tally .range) (cornerIn (w .corner))
   pub by :
-      Made (rulesOf binary64 z upper (s .tolerance) (s .absolute)) (s .limit) (s .credit) (stands (walkOf first) start) made
-      (stands (walkOf w) now)
+      let rules = rulesOf binary64 z upper (s .tolerance) (s .absolute) in
+      Made rules (s .limit) (s .credit) (stands (walkOf first) start) made (stands (walkOf w) now)
 
-pub inv-start : (z : Sizes) (upper : Bool) (n : ℕ) (s : Settings) (first : Walk) (d : Work) → Standing z upper n first → Inv z upper n s first d d first 0
+pub inv-start :
+    (z : Sizes) (upper : Bool) (n : ℕ) (s : Settings) (first : Walk) (d : Work) →
+    Standing z upper n first → Inv z upper n s first d d first 0
 inv-start z upper n s first d q =
     record { same = record { matrix = refl; u = refl; v = refl }; within = zero-le; placed = q .placed; by = made-none _ _ _ _ }
 
@@ -198,10 +201,9 @@ pub decomposed :
     w₁ ≡ bidiagonal binary64 (s .floor) z (isUpper (z .rows) (z .cols)) c w →
     first ≡ begun c →
     stands last w₂ ≡
-    run (rulesOf binary64 z (isUpper (z .rows) (z .cols)) (s .tolerance) (s .absolute)) (s .limit) (s .credit) mostPasses
-    (stands first w₁) →
+    run (rulesFor binary64 z (z .rows) (z .cols) s) (s .limit) (s .credit) mostPasses (stands first w₁) →
     stands last w₂ ≡ walkedFrom binary64 z (z .rows) (z .cols) s w
 decomposed z s w w₁ w₂ c first last e few low paid e₁ ef e₂ =
     rw (ef, e₁, e) at e₂
-    ∙ walked-same (rulesOf binary64 z (isUpper (z .rows) (z .cols)) (s .tolerance) (s .absolute)) (s .limit) (s .credit) (card (z .rows) (z .cols)) mostPasses _
+    ∙ walked-same (rulesFor binary64 z (z .rows) (z .cols) s) (s .limit) (s .credit) (card (z .rows) (z .cols)) mostPasses _
     (enough-most (rw e at few) low paid)

@@ -126,7 +126,9 @@ module _ (kept : Bool) (rows cols : ℕ) (s : Settings) (w₀ : Work) (r : Repor
       told-passes = ap (λ (t : Tally). t .passes) (told-end .0)
 
       -- which is the state after as many passes as are told,
-      pub told-made : (tallyOf (r .tally) ≡ passed (r .tally .passes) .walk .tally) × (w ≡ passed (r .tally .passes) .held)
+      pub told-made :
+          let e = passed (r .tally .passes) in
+          (tallyOf (r .tally) ≡ e .walk .tally) × (w ≡ e .held)
       told-made =
           let q = made .counted ∙ ap passed (sym told-passes) in
           (told-end .0 ∙ ap (λ (x : State Work). x .walk .tally) q, told-end .1 ∙ ap (λ (x : State Work). x .held) q)

@@ -2,13 +2,13 @@
 use mathlib.Core.Path.{_≡_, refl, _∙_}
 use mathlib.Core.Bool.{Bool, true, false, not}
 use mathlib.Core.List.{List}
-use Prim.Native.Nat.{ℕ, _+_, _-_, _*_, _≤_, _<_, zero-le}
+use Prim.Native.Nat.{ℕ, _+_, _-_, _≤_, _<_, zero-le}
 use native.Mathlib.Omega.{arith}
 use lib.Ieee.{Float, binary64}
 use Rattle.method.specs.Work.{Work, work, Shape as Sizes}
 use Rattle.method.specs.Repeated.{repeated-more}
-use Rattle.method.specs.Reflection.{reflectionOf}
-use Rattle.method.specs.Bidiagonal.{columnReflection, columnMatrix, rowMatrix, factorReflected, columnZeroed, rowZeroed, firstZeroed, placesZeroed, bidiagonal, bidiagonal-other}
+use Rattle.method.specs.Bidiagonal.{columnReflection, rowReflection, columnMatrix, rowMatrix, factorReflected}
+use Rattle.method.specs.Bidiagonal.{columnZeroed, rowZeroed, firstZeroed, placesZeroed, bidiagonal, bidiagonal-other}
 use Rattle.svd.specs.Values.{Inside}
 use Rattle.method.specs.Chase.{pushed, steps, stepped-is}
 
@@ -19,16 +19,16 @@ module _ (floor : Float) (z : Sizes) where
   module _ (i j : ℕ) (b u v b′ f′ : List Float) where
     pub column-zeroed :
         b′ ≡ columnMatrix binary64 floor (z .rows) (z .cols) (z .stride) i j b →
-        f′ ≡
-        factorReflected binary64 (columnReflection binary64 floor (z .rows) (z .stride) i j b) (z .rows) (z .urows) i u →
+        (let r = columnReflection binary64 floor (z .rows) (z .stride) i j b in
+        f′ ≡ factorReflected binary64 r (z .rows) (z .urows) i u) →
         work b′ f′ v ≡ columnZeroed binary64 floor z i j (work b u v)
     unfolding columnZeroed
     column-zeroed eb eu = rw (eb, eu) refl
 
     pub row-zeroed :
         b′ ≡ rowMatrix binary64 floor (z .rows) (z .cols) (z .stride) i j b →
-        f′ ≡
-        factorReflected binary64 (reflectionOf binary64 floor (i * z .stride + j) (z .cols - j) b) (z .cols) (z .vrows) j v →
+        (let r = rowReflection binary64 floor (z .cols) (z .stride) i j b in
+        f′ ≡ factorReflected binary64 r (z .cols) (z .vrows) j v) →
         work b′ u f′ ≡ rowZeroed binary64 floor z i j (work b u v)
     unfolding rowZeroed
     row-zeroed eb ev = rw (eb, ev) refl
@@ -59,7 +59,8 @@ module _ (floor : Float) (z : Sizes) where
     last d = d ∙ bidiagonal-other binary64 floor z upper c w₀ w₁ places other
 
     pub last-upper :
-        upper ≡ true → w₂ ≡ columnZeroed binary64 floor z (c - 1) (c - 1) w₁ → w₂ ≡ bidiagonal binary64 floor z upper c w₀
+        upper ≡ true → w₂ ≡ columnZeroed binary64 floor z (c - 1) (c - 1) w₁ →
+        w₂ ≡ bidiagonal binary64 floor z upper c w₀
     last-upper e d = last (rw e d)
 
     pub last-lower :

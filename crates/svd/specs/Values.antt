@@ -12,7 +12,7 @@ use Rattle.method.specs.Rotation.{Rotation as Turn}
 use Rattle.method.specs.Reflection.{Reflection}
 use Rattle.method.specs.Bidiagonal.{columnReflection, headed}
 use Rattle.method.specs.Index.{row-fits, rows-left, inside}
-use Rattle.method.specs.Settings.{mostSize}
+use Rattle.method.specs.Settings.{mostSize, mostStride}
 use Rattle.method.specs.Work.{Work, Shape as Sizes}
 use Rattle.method.specs.Lengths.{SameLengths}
 use Rattle.method.specs.Walk as Walk
@@ -69,10 +69,6 @@ pub record Taken (floor : Float) (rows stride i j : ℕ) (b b′ p : List Float)
   pub table : b′ ≡ headed (reflection entries p tau) rows stride i j b
 
 -- ---- what the kernels ask of the lists they are lent
-
--- how far apart the rows of a table may start
-abbrev pub mostStride : ℕ
-mostStride = 64
 
 -- the table lies in its list, and its sizes are small
 pub record Roomy (z : Sizes) (b : List Float) : Type 0 where

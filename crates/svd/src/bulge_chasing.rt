@@ -17,7 +17,8 @@ ghost use Rattle.method.specs.Work.{work, couplingPlace};
 ghost use Rattle.method.specs.Walk.{stands, run};
 ghost use Rattle.method.specs.Chase.{along, turned, pushed, steps, negligible, firstRotation, swept};
 ghost use Rattle.method.specs.Outcome.{rulesOf};
-ghost use Rattle.svd.specs.Values.{rotation, sizes, walkOf, mostStride, Lending, Inside, Block};
+ghost use Rattle.method.specs.Settings.{mostStride};
+ghost use Rattle.svd.specs.Values.{rotation, sizes, walkOf, Lending, Inside, Block};
 ghost use Rattle.svd.specs.Passes.{Standing};
 
 // Entry j of line i, a row or a column.

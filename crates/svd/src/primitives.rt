@@ -6,9 +6,9 @@ ghost use lib.Ieee.{binary64};
 ghost use Rattle.method.specs.Chase.{singular};
 ghost use Rattle.method.specs.Walk.{begun, afterDrop, afterSweep};
 ghost use Rattle.method.specs.Walk.Loop.{Room};
-ghost use Rattle.method.specs.Settings.{mostSize};
+ghost use Rattle.method.specs.Settings.{mostSize, mostStride};
 ghost use Rattle.method.specs.Positions.{cornerOf, cornerDropped};
-ghost use Rattle.svd.specs.Values.{walkOf, cornerIn, mostStride};
+ghost use Rattle.svd.specs.Values.{walkOf, cornerIn};
 use crate::tally::Tally;
 
 // The eigenvalue of M'M nearest to its last entry, for M of rows (m00, m01) and (m10, m11).

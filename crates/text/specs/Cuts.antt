@@ -37,15 +37,6 @@ module _ (stop at : ℕ) (s : Bytes) where
   pub found-least : at ≤ length s → at ≤ found stop at s
   found-least h = omega (arith, found-inside h)
 
-  pub found-most : found stop at s ≤ length s
-  found-most = go (leb at (length s)) refl
-    where
-      go : (x : Bool) → leb at (length s) ≡ x → found stop at s ≤ length s
-      go true x =
-          let h = leb-true at (length s) x in
-          omega (arith, found-inside h, index-most stop (drop at s), length-drop at s)
-      go false x = omega (arith, found-outside (leb-false at (length s) x))
-
 -- the kit's search up to the end is the search
 pub slice-all : (at : ℕ) (s : Bytes) → slice at (length s) s ≡ drop at s
 unfolding slice

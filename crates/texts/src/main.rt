@@ -8,6 +8,7 @@ ghost use Prim.Native.Nat.{_+_, _≤_, _<_};
 ghost use lib.ListN.{length};
 use check::same;
 use score::Score;
+use survey::ROOM;
 use text::numerals::Number;
 use text::numerals::value;
 
@@ -19,10 +20,10 @@ fn whole() -> [u8; 500000]
 }
 
 // Room for what is printed of a text.
-fn blank() -> [u8; 314000]
+fn blank() -> [u8; ROOM]
     ensures { λ r. ⌜ 314000 ≡ length r ⌝ }
 {
-    [0; 314000]
+    [0; ROOM]
 }
 
 // The number that six digits from `at` on say; 999,999 where they are none.

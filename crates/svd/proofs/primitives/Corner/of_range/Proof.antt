@@ -3,8 +3,7 @@ use borrow.Author.Needs.{needs}
 use Prim.Native.Nat.{ℕ, _+_, _-_, _*_, _≤_}
 use mathlib.Core.Path.{_≡_, refl}
 use native.Mathlib.Omega.{arith}
-use Rattle.method.specs.Settings.{mostSize}
-use Rattle.svd.specs.Values.{mostStride}
+use Rattle.method.specs.Settings.{mostSize, mostStride}
 use Rattle.method.specs.Index.{few}
 use Rattle.method.specs.Positions.{cornerOf}
 use Rattle.svd.proofs.primitives.Corner.of_range.Statement.{statement}
