@@ -1,2 +1,3 @@
 -- What the counts of a score are.
 pub mod Counts
+pub mod Answers

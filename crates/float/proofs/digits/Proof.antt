@@ -48,14 +48,4 @@ pub digits-spec : {M : Type 1} → statement M
 digits-spec =
     tie.close
     (tie.spec
-    Inv-loop
-    μ-loop
-    loop-holds
-    add-rest
-    add-step
-    add-twice
-    loop-less
-    loop-again
-    loop-less-2
-    loop-again-2
-    returns)
+    Inv-loop μ-loop loop-holds add-rest add-step add-twice loop-less loop-again loop-less-2 loop-again-2 returns)

@@ -60,14 +60,4 @@ pub normalised-spec : {M : Type 1} → statement M
 normalised-spec =
     tie.close
     (tie.spec
-    Inv-loop
-    μ-loop
-    sub-digits
-    add-digits
-    add-power
-    loop-holds
-    add-digits-2
-    sub-power
-    loop-less
-    loop-again
-    returns)
+    Inv-loop μ-loop sub-digits add-digits add-power loop-holds add-digits-2 sub-power loop-less loop-again returns)

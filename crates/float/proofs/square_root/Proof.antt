@@ -58,12 +58,5 @@ pub square-root-spec : {M : Type 1} → statement M
 square-root-spec =
     tie.close
     (tie.spec
-    returns
-    float-to-bits-bits
-    returns-2
-    returns-3
-    returns-4
-    returns-5
-    root-bits-requires
-    float-from-bits-result
+    returns float-to-bits-bits returns-2 returns-3 returns-4 returns-5 root-bits-requires float-from-bits-result
     returns-6)

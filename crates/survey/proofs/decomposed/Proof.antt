@@ -34,10 +34,5 @@ pub decomposed-spec : {M : Type 1} → statement M
 decomposed-spec =
     tie.close
     (tie.spec
-    (λ c. search needs)
-    (λ c. search needs)
-    slice-aggregate-svd-decomposition
-    (λ c κs. search needs)
-    (λ c κs. search needs)
-    (λ c. search needs)
-    returns)
+    (λ c. search needs) (λ c. search needs) slice-aggregate-svd-decomposition (λ c κs. search needs)
+    (λ c κs. search needs) (λ c. search needs) returns)

@@ -185,23 +185,7 @@ pub split-text-spec : {M : Type 1} → statement M
 split-text-spec =
     tie.close
     (tie.spec
-    Inv-loop
-    μ-loop
-    (λ c κs. search needs)
-    (λ c κs. omega arith)
-    returns
-    loop-holds
-    (λ c. search needs)
-    (λ c. search needs)
-    (λ c. omega (arith, ranged (c .before) .cols-least))
-    body-requires
-    (λ c. sym (turned (c .before .before) .1))
-    put-survey-requires
-    (λ c. search needs)
-    (λ c. search needs)
-    loop-again
-    put-malformed-requires-2
-    returns-2
-    put-malformed-requires-3
-    returns-3
-    returns-4)
+    Inv-loop μ-loop (λ c κs. search needs) (λ c κs. omega arith) returns loop-holds (λ c. search needs)
+    (λ c. search needs) (λ c. omega (arith, ranged (c .before) .cols-least)) body-requires
+    (λ c. sym (turned (c .before .before) .1)) put-survey-requires (λ c. search needs) (λ c. search needs) loop-again
+    put-malformed-requires-2 returns-2 put-malformed-requires-3 returns-3 returns-4)

@@ -106,23 +106,7 @@ pub body-spec : {M : Type 1} → statement M
 body-spec =
     tie.close
     (tie.spec
-    Inv-loop
-    μ-loop
-    loop-holds
-    (λ c κs. search needs)
-    (λ c. search needs)
-    returns
-    (λ c. omega (arith, onwards c))
-    (λ c. omega (arith, onwards c))
-    (λ c. omega (arith, onwards c))
-    row-line-requires
-    (λ c. search needs)
-    (λ c. search needs)
-    add-k-2
-    (λ c. search needs)
-    (λ c. search needs)
-    loop-again
-    (λ c. search needs)
-    returns-2
-    (λ c. search needs)
-    returns-3)
+    Inv-loop μ-loop loop-holds (λ c κs. search needs) (λ c. search needs) returns (λ c. omega (arith, onwards c))
+    (λ c. omega (arith, onwards c)) (λ c. omega (arith, onwards c)) row-line-requires (λ c. search needs)
+    (λ c. search needs) add-k-2 (λ c. search needs) (λ c. search needs) loop-again (λ c. search needs) returns-2
+    (λ c. search needs) returns-3)

@@ -42,13 +42,6 @@ pub contents-spec : {M : Type 1} → statement M
 contents-spec =
     tie.close
     (tie.spec
-    (λ c κs. search needs)
-    (λ c κs. search needs)
-    returns
-    (λ c. sym (length-take-le _ _ (c .before .before .find .ensures .1)))
-    (λ c κs. search needs)
-    (λ c κs. search needs)
-    returns-2
-    (λ c. search needs)
-    entries-requires
-    returns-3)
+    (λ c κs. search needs) (λ c κs. search needs) returns
+    (λ c. sym (length-take-le _ _ (c .before .before .find .ensures .1))) (λ c κs. search needs)
+    (λ c κs. search needs) returns-2 (λ c. search needs) entries-requires returns-3)

@@ -102,25 +102,9 @@ pub entry-line-spec : {M : Type 1} → statement M
 entry-line-spec =
     tie.close
     (tie.spec
-    (λ c κs. search needs)
-    returns
-    (λ c. search needs)
-    (λ c κs. search needs)
-    returns-2
-    (λ c. search needs)
-    slice-aggregate-whole
-    (λ c κs. search needs)
-    returns-3
+    (λ c κs. search needs) returns (λ c. search needs) (λ c κs. search needs) returns-2 (λ c. search needs)
+    slice-aggregate-whole (λ c κs. search needs) returns-3 (λ c. omega (arith, onwards (c .before .before .before)))
     (λ c. omega (arith, onwards (c .before .before .before)))
-    (λ c. omega (arith, onwards (c .before .before .before)))
-    (λ c. omega (arith, onwards (c .before .before .before)))
-    (λ c κs. search needs)
-    returns-4
-    (λ c. search needs)
-    (λ c. search needs)
-    (λ c. search needs)
-    (λ c κs. search needs)
-    returns-5
-    (λ c κs. search needs)
-    returns-6
+    (λ c. omega (arith, onwards (c .before .before .before))) (λ c κs. search needs) returns-4 (λ c. search needs)
+    (λ c. search needs) (λ c. search needs) (λ c κs. search needs) returns-5 (λ c κs. search needs) returns-6
     returns-7)

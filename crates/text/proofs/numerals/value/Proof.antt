@@ -68,18 +68,6 @@ pub value-spec : {M : Type 1} → statement M
 value-spec =
     tie.close
     (tie.spec
-    Inv-loop
-    μ-loop
-    returns
-    loop-holds
-    (λ c. search needs)
-    (λ c κs. search needs)
-    returns-2
-    over-requires
-    returns-3
-    (λ c. omega (arith, below c))
-    (λ c. omega (arith, below c))
-    (λ c. search needs)
-    (λ c. search needs)
-    loop-again
+    Inv-loop μ-loop returns loop-holds (λ c. search needs) (λ c κs. search needs) returns-2 over-requires returns-3
+    (λ c. omega (arith, below c)) (λ c. omega (arith, below c)) (λ c. search needs) (λ c. search needs) loop-again
     returns-4)

@@ -40,12 +40,5 @@ pub whole-spec : {M : Type 1} → statement M
 whole-spec =
     tie.close
     (tie.spec
-    returns
-    (λ c. search needs)
-    returns-2
-    (λ c κs. search needs)
-    (λ c. search needs)
-    enum-told
-    returns-3
-    returns-4
+    returns (λ c. search needs) returns-2 (λ c κs. search needs) (λ c. search needs) enum-told returns-3 returns-4
     returns-5)

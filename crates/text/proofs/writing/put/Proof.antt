@@ -25,10 +25,5 @@ pub put-spec : {M : Type 1} → statement M
 put-spec =
     tie.close
     (tie.spec
-    (λ c κs. search needs)
-    (λ c κs. fits (c .before))
-    (λ c. omega (arith, fits (c .before .before .before .before)))
-    (λ c. search needs)
-    (λ c. search needs)
-    returns
-    returns-2)
+    (λ c κs. search needs) (λ c κs. fits (c .before)) (λ c. omega (arith, fits (c .before .before .before .before)))
+    (λ c. search needs) (λ c. search needs) returns returns-2)

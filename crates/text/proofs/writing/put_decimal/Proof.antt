@@ -33,11 +33,6 @@ pub put-decimal-spec : {M : Type 1} → statement M
 put-decimal-spec =
     tie.close
     (tie.spec
-    (λ c κs. search needs)
-    (λ c κs. search needs)
-    (λ c κs. (fits (c .before), omega arith, omega arith))
-    (λ c. omega (arith, fits (c .before .before .before .before)))
-    (λ c. search needs)
-    (λ c. search needs)
-    returns
+    (λ c κs. search needs) (λ c κs. search needs) (λ c κs. (fits (c .before), omega arith, omega arith))
+    (λ c. omega (arith, fits (c .before .before .before .before))) (λ c. search needs) (λ c. search needs) returns
     returns-2)

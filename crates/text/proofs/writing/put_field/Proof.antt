@@ -36,13 +36,7 @@ put-field-spec =
     (tie.spec
     (λ c κs. search needs)
     (λ c. omega (arith, c .places .ensures, places-most 19 (c .before .before .args .n) (omega arith)))
-    (λ c κs. search needs)
-    (λ c. omega (arith, fits c))
-    (λ c. omega (arith, fits (c .before)))
-    (λ c. search needs)
+    (λ c κs. search needs) (λ c. omega (arith, fits c)) (λ c. omega (arith, fits (c .before))) (λ c. search needs)
     (λ c κs. (simp length-set (omega (arith, fits (c .before))), omega arith, omega arith))
-    (λ c. omega (arith, fits (c .before .before .before .before)))
-    (λ c. search needs)
-    (λ c. ap length (c .before .before .store-digits .ensures) ∙ simp (length-sets, length-set))
-    returns
-    returns-2)
+    (λ c. omega (arith, fits (c .before .before .before .before))) (λ c. search needs)
+    (λ c. ap length (c .before .before .store-digits .ensures) ∙ simp (length-sets, length-set)) returns returns-2)

@@ -45,16 +45,5 @@ pub store-digits-spec : {M : Type 1} → statement M
 store-digits-spec =
     tie.close
     (tie.spec
-    Inv-loop
-    μ-loop
-    loop-holds
-    (λ c. search needs)
-    (λ c. search needs)
-    digit-requires
-    (λ c. search needs)
-    (λ c. omega arith)
-    (λ c. search needs)
-    (λ c. search needs)
-    loop-again
-    (λ c. search needs)
-    returns)
+    Inv-loop μ-loop loop-holds (λ c. search needs) (λ c. search needs) digit-requires (λ c. search needs)
+    (λ c. omega arith) (λ c. search needs) (λ c. search needs) loop-again (λ c. search needs) returns)
