@@ -15,8 +15,8 @@ use Rattle.method.specs.Reflection.{reflectedRight-length, reflectedLeft
 use Rattle.method.specs.Bidiagonal.{columnReflection, headed, columnMatrix, rowMatrix, factorReflected}
 use Rattle.method.specs.Bidiagonal.{columnZeroed, rowZeroed, bidiagonal, column-still, column-moved, row-still}
 use Rattle.method.specs.Bidiagonal.{row-moved, factor-still, factor-moved}
-use Rattle.method.specs.Chase.{turned, steps, swept}
-use Rattle.method.specs.Relation.Alone.{Holds, bidiagonal-holds, steps-holds, swept-holds, run-holds}
+use Rattle.method.specs.Chase.{turned, swept}
+use Rattle.method.specs.Relation.Alone.{Holds, bidiagonal-holds, swept-holds, run-holds}
 use Rattle.method.specs.Checks.{refusalOf}
 use Rattle.method.specs.Outcome.{walkedFrom, card, accepted, outcome}
 use Rattle.method.specs.Settings.{Settings}
@@ -111,13 +111,6 @@ bidiagonal-kept f floor z upper c w w′ e =
 module _ (f : Format) (z : Shape) where
   pub swept-lengths : (upper : Bool) (k : ℕ) (w : Work) → SameLengths w (swept f z upper k w)
   swept-lengths upper k w = swept-holds (lengths-hold f plusZero z (k + 2) w) upper k w (omega arith) (same w)
-
-  pub turned-kept :
-      (g : Rotation) (byRow : Bool) (i j n : ℕ) (w w′ : Work) → w′ ≡ turned f z g byRow i j n w → SameLengths w w′
-  turned-kept g byRow i j n w w′ e = rw e (turned-lengths f z g byRow i j n w)
-
-  pub steps-kept : (upper : Bool) (n : ℕ) (w w′ : Work) → w′ ≡ steps f z upper n w → SameLengths w w′
-  steps-kept upper n w w′ e = rw e (steps-holds (lengths-hold f plusZero z (n + 2) w) upper n w (omega arith) (same w))
 
   pub walkedFrom-lengths :
       (rows cols : ℕ) (s : Settings) (w : Work) → SameLengths w (walkedFrom f z rows cols s w .held)
