@@ -9,7 +9,7 @@ use lib.Ieee.{binary64, size, ofBits}
 use lib.Ieee.Bits.{ofBits-fits}
 use lib.Ieee.Digits.{size-lt, size-le}
 use lib.Ieee.Positive.{positive, first-pos, positive-of-value}
-use Rattle.method.specs.Root.{dropped, kept, count, square, wholeRoot, rooted}
+use Rattle.method.specs.Root.{dropped, leading, count, square, wholeRoot, rooted}
 use Rattle.method.specs.Root.Whole.{IsRoot, whole-is, root-unique, four-pow}
 use Rattle.method.specs.Root.Written.{pow-lt-back, root-read}
 use Rattle.method.specs.Root.Patterns.{fieldCount, bits-val, bits-count}
@@ -43,7 +43,7 @@ module _ (n X h : ℕ) (lo : 2 ^ 52 ≤ X) (hi : X < 2 ^ 54) (is : n ≡ X * 2 ^
       go : (x d : ℕ) → 4 * (x * (d * 2 ^ 52)) ≡ x * 2 ^ 54 * d
       go x d = omega arith
 
-  kept-is : (R : ℕ) → IsRoot (X * 2 ^ 54) R → kept binary64 n ≡ (R + 1) / 2
+  kept-is : (R : ℕ) → IsRoot (X * 2 ^ 54) R → leading binary64 n ≡ (R + 1) / 2
   kept-is R r =
       ap (λ (k : ℕ). (wholeRoot 54 (4 * n / 4 ^ k) + 1) / 2) dropped-is
       ∙ ap (λ (z : ℕ). (wholeRoot 54 z + 1) / 2) (ap (λ (z : ℕ). z / 4 ^ h) four-n ∙ mul-div-cancel (X * 2 ^ 54) four-pos)

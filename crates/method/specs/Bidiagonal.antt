@@ -51,12 +51,12 @@ rowMatrix f floor rows cols stride i j a =
       | false ↦ reflectedRight f (r .vector) (r .tau) stride (i + 1) j (rows - (i + 1)) (cols - j) (r .entries)
     ]
 
--- a factor of size n, of which `kept` rows are kept: its columns from i on take the reflection, where tau is not 0
+-- a factor of size n, of which `lines` rows are kept: its columns from i on take the reflection, where tau is not 0
 unfoldable pub factorReflected : Format → Reflection → ℕ → ℕ → ℕ → List Float → List Float
-factorReflected f r n kept i a =
+factorReflected f r n lines i a =
     elim (eq (r .tau) plusZero) [
       | true ↦ a
-      | false ↦ reflectedRight f (r .vector) (r .tau) n 0 i kept (n - i) a
+      | false ↦ reflectedRight f (r .vector) (r .tau) n 0 i lines (n - i) a
     ]
 
 -- column j cleared below row i, and U's columns from i on reflected
@@ -135,15 +135,15 @@ module _ (f : Format) (floor : Float) (rows cols stride i j : ℕ) (a : List Flo
   unfolding rowMatrix
   row-moved e t = rw e (rw (rw e at t, rowMatrix))
 
-module _ (f : Format) (n kept i : ℕ) (a : List Float) (r r′ : Reflection) where
-  pub factor-still : r ≡ r′ → eq (r .tau) plusZero ≡ true → a ≡ factorReflected f r′ n kept i a
+module _ (f : Format) (n lines i : ℕ) (a : List Float) (r r′ : Reflection) where
+  pub factor-still : r ≡ r′ → eq (r .tau) plusZero ≡ true → a ≡ factorReflected f r′ n lines i a
   unfolding factorReflected
   factor-still e t = rw (rw e at t, factorReflected)
 
   pub factor-moved :
       r ≡ r′ →
       eq (r .tau) plusZero ≡ false →
-      reflectedRight f (r .vector) (r .tau) n 0 i kept (n - i) a ≡ factorReflected f r′ n kept i a
+      reflectedRight f (r .vector) (r .tau) n 0 i lines (n - i) a ≡ factorReflected f r′ n lines i a
   unfolding factorReflected
   factor-moved e t = rw e (rw (rw e at t, factorReflected))
 

@@ -63,8 +63,8 @@ plain floor limit rows cols b =
     ofReport (o .report) ++ bits (o .held .matrix)
 
 -- the report, the matrix, and then U, begun as the identity
-abbrev kept : Float → ℕ → ℕ → ℕ → List ℕ → List ℕ
-kept floor limit rows cols b =
+abbrev factored : Float → ℕ → ℕ → ℕ → List ℕ → List ℕ
+factored floor limit rows cols b =
     let o = fullOutcome binary64 rows cols (given limit 50 floor) (work (floats b) (identity rows) (identity cols)) in
     ofReport (o .report) ++ bits (o .held .matrix) ++ bits (o .held .u)
 
@@ -85,7 +85,7 @@ computed floor =
     ∷ shifted 0x3ff0_0000_0000_0000 0 0 0x4000_0000_0000_0000
     ∷ plain floor 100 1 1 (0xc008_0000_0000_0000 ∷ [])
     ∷ plain floor 100 1 2 (0x4008_0000_0000_0000 ∷ 0x4010_0000_0000_0000 ∷ [])
-    ∷ kept floor 100 2 2 (0x4000_0000_0000_0000 ∷ 0 ∷ 0 ∷ 0x3ff0_0000_0000_0000 ∷ [])
+    ∷ factored floor 100 2 2 (0x4000_0000_0000_0000 ∷ 0 ∷ 0 ∷ 0x3ff0_0000_0000_0000 ∷ [])
     ∷ plain floor 3 2 2 (0 ∷ 0 ∷ 0 ∷ 0 ∷ [])
     ∷ []
 

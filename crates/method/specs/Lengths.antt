@@ -65,12 +65,12 @@ module _ (f : Format) (floor : Float) (rows cols stride i j : ℕ) (a : List Flo
           (reflectedRight-length f _ _ _ _ _ _ _ _ ∙ reflectionOf-entries f floor _ _ a)
 
 pub factor-length :
-    (f : Format) (r : Reflection) (n kept i : ℕ) (a : List Float) → length (factorReflected f r n kept i a) ≡ length a
-factor-length f r n kept i a = go (eq (r .tau) plusZero) refl
+    (f : Format) (r : Reflection) (n lines i : ℕ) (a : List Float) → length (factorReflected f r n lines i a) ≡ length a
+factor-length f r n lines i a = go (eq (r .tau) plusZero) refl
   where
-    go : (t : Bool) → eq (r .tau) plusZero ≡ t → length (factorReflected f r n kept i a) ≡ length a
-    go true e = rw (← factor-still f n kept i a r r refl e) refl
-    go false e = rw (← factor-moved f n kept i a r r refl e) (reflectedRight-length f _ _ _ _ _ _ _ _)
+    go : (t : Bool) → eq (r .tau) plusZero ≡ t → length (factorReflected f r n lines i a) ≡ length a
+    go true e = rw (← factor-still f n lines i a r r refl e) refl
+    go false e = rw (← factor-moved f n lines i a r r refl e) (reflectedRight-length f _ _ _ _ _ _ _ _)
 
 module _ (f : Format) (floor : Float) (z : Shape) where
   pub columnZeroed-lengths : (i j : ℕ) (w : Work) → SameLengths w (columnZeroed f floor z i j w)

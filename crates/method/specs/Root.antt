@@ -45,13 +45,13 @@ abbrev pub dropped : Format → ℕ → ℕ
 dropped f n = (size n + 1) / 2 - prec f
 
 -- √n without them, rounded to the nearest whole number: half of one more than the whole part of its double
-abbrev pub kept : Format → ℕ → ℕ
-kept f n = (wholeRoot (suc (prec f)) (4 * n / 4 ^ dropped f n) + 1) / 2
+abbrev pub leading : Format → ℕ → ℕ
+leading f n = (wholeRoot (suc (prec f)) (4 * n / 4 ^ dropped f n) + 1) / 2
 
 -- the value of the format that is nearest to √n smallest values
 unfoldable pub rooted : Format → ℕ → Float
 unfolding size odd wholeRoot
-rooted f n = odd (suc (prec f)) false (kept f n) (dropped f n) (low f)
+rooted f n = odd (suc (prec f)) false (leading f n) (dropped f n) (low f)
 
 -- -0 and +0 stay. Below zero and at NaN the result is NaN. +infinity stays.
 unfoldable pub squareRoot : Format → Float → Float

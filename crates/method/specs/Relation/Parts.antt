@@ -50,26 +50,26 @@ pub record MatrixKept (f : Format) (floor : Float) (rows cols stride stride′ c
       (g : Rotation) (i j n : ℕ) (a a′ : List Float) → i + 1 < c → j + n ≤ c → M a a′ →
       M (columnsTurned f g stride i j n a) (columnsTurned f g stride′ i j n a′)
 
--- what is to be shown of the factors of n columns, of which `kept` and `kept′` rows are kept
-pub record FactorKept (f : Format) (n kept kept′ c : ℕ) (Q : Between) : Type 0 where
+-- what is to be shown of the factors of n columns, of which `lines` and `lines′` rows are kept
+pub record FactorKept (f : Format) (n lines lines′ c : ℕ) (Q : Between) : Type 0 where
   pub reflect :
       (p : List Float) (tau : Float) (i : ℕ) (a a′ : List Float) → i < c → Q a a′ →
-      Q (reflectedRight f p tau n 0 i kept (n - i) a) (reflectedRight f p tau n 0 i kept′ (n - i) a′)
+      Q (reflectedRight f p tau n 0 i lines (n - i) a) (reflectedRight f p tau n 0 i lines′ (n - i) a′)
   pub turn :
       (g : Rotation) (i : ℕ) (a a′ : List Float) → i + 1 < c → Q a a′ →
-      Q (columnsTurned f g n i 0 kept a) (columnsTurned f g n i 0 kept′ a′)
+      Q (columnsTurned f g n i 0 lines a) (columnsTurned f g n i 0 lines′ a′)
 
 factor-kept :
-    {f : Format} {n kept kept′ c : ℕ} {Q : Between} → FactorKept f n kept kept′ c Q →
+    {f : Format} {n lines lines′ c : ℕ} {Q : Between} → FactorKept f n lines lines′ c Q →
     (r r′ : Reflection) (i : ℕ) (a a′ : List Float) → Same r r′ → i < c → Q a a′ →
-    Q (factorReflected f r n kept i a) (factorReflected f r′ n kept′ i a′)
+    Q (factorReflected f r n lines i a) (factorReflected f r′ n lines′ i a′)
 unfolding factorReflected
-factor-kept {f} {n} {kept} {kept′} {c} {Q} k r r′ i a a′ s h q = rw (s .vector, s .tau) (choose (eq (r′ .tau) plusZero))
+factor-kept {f} {n} {lines} {lines′} {c} {Q} k r r′ i a a′ s h q = rw (s .vector, s .tau) (choose (eq (r′ .tau) plusZero))
   where
     choose :
         (t : Bool) →
-        Q (elim t [ true ↦ a | false ↦ reflectedRight f (r′ .vector) (r′ .tau) n 0 i kept (n - i) a ])
-        (elim t [ true ↦ a′ | false ↦ reflectedRight f (r′ .vector) (r′ .tau) n 0 i kept′ (n - i) a′ ])
+        Q (elim t [ true ↦ a | false ↦ reflectedRight f (r′ .vector) (r′ .tau) n 0 i lines (n - i) a ])
+        (elim t [ true ↦ a′ | false ↦ reflectedRight f (r′ .vector) (r′ .tau) n 0 i lines′ (n - i) a′ ])
     choose true = q
     choose false = k .reflect (r′ .vector) (r′ .tau) i a a′ h q
 
@@ -151,5 +151,5 @@ equal-kept f floor rows cols stride c =
       turnColumns = λ g i j n a a′ h l e. ap (columnsTurned f g stride i j n) e;
     }
 
-pub any-kept : (f : Format) (n kept kept′ c : ℕ) → FactorKept f n kept kept′ c Any
-any-kept f n kept kept′ c = record { reflect = λ p tau i a a′ h q. tt; turn = λ g i a a′ h q. tt }
+pub any-kept : (f : Format) (n lines lines′ c : ℕ) → FactorKept f n lines lines′ c Any
+any-kept f n lines lines′ c = record { reflect = λ p tau i a a′ h q. tt; turn = λ g i a a′ h q. tt }

@@ -11,7 +11,7 @@ use lib.Ieee.Bits.{ofBits-fits}
 use lib.Ieee.Digits.{size-le}
 use lib.Ieee.Fits.{two}
 use lib.Ieee.Positive.{positive, positive-finite}
-use Rattle.method.specs.Root.{dropped, kept, count, square, rooted, squareRoot, Nearest, before, after, Enclosed}
+use Rattle.method.specs.Root.{dropped, leading, count, square, rooted, squareRoot, Nearest, before, after, Enclosed}
 use Rattle.method.specs.Root.Laws.{squareRoot-of, squareRoot-nearest, nearest-unique, square-rounding, square-top}
 use Rattle.method.specs.Root.Written.{squareRoot-pattern}
 use Rattle.method.specs.Root.Whole.{sq-le}
@@ -34,7 +34,7 @@ module _ (f : Format) (x : Float) (h : T (fits f x)) (p : T (positive x)) where
   b-hi =
       subst (λ (z : ℕ). z + 1 < ones f * hid f) (sym (squareRoot-pattern f x h p))
       (lt-of-lt-of-le
-      (go (dropped f (square f x)) (hid f) (kept f (square f x)) (2 ^ prec f) (double-hid (prec f) (two f))
+      (go (dropped f (square f x)) (hid f) (leading f (square f x)) (2 ^ prec f) (double-hid (prec f) (two f))
       (square-rounding f x h p .most) big)
       (mul-le-mul-right (hid f) fields-lt))
     where

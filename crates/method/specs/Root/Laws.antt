@@ -14,12 +14,12 @@ use lib.Ieee.Fits.{two, odd-fits}
 use lib.Ieee.Exact.{HasValue, odd-sign}
 use lib.Ieee.Scale.{finite}
 use lib.Ieee.Positive.{positive, positive-finite, positive-of-value}
-use Rattle.method.specs.Root.{count, square, dropped, kept, rooted, squareRoot, Nearest}
+use Rattle.method.specs.Root.{count, square, dropped, leading, rooted, squareRoot, Nearest}
 use Rattle.method.specs.Root.Whole.{sq-le}
 use Rattle.method.specs.Root.Grid.{Rounded, rounded-is, near-lower, near-upper, less-or-not, neither}
 use Rattle.method.specs.Root.Counts.{count-is, Shape, shape, count-pos, count-unique}
 
-rooted-is : (f : Format) (n : ℕ) → rooted f n ≡ odd (suc (prec f)) false (kept f n) (dropped f n) (low f)
+rooted-is : (f : Format) (n : ℕ) → rooted f n ≡ odd (suc (prec f)) false (leading f n) (dropped f n) (low f)
 unfolding rooted
 rooted-is f n = refl
 
@@ -61,26 +61,26 @@ module _ (f : Format) (n m a : ℕ) (least : 2 ^ low f ≤ n) (small : m < 2 ^ p
       go : (z p : ℕ) → z ≤ p + ((z + 1) / 2 - p) + (p + ((z + 1) / 2 - p))
       go z p = omega arith
 
-  rounding : Rounded (prec f) (dropped f n) n (kept f n)
+  rounding : Rounded (prec f) (dropped f n) n (leading f n)
   rounding = rounded-is (prec f) (dropped f n) n m a (two f) lo hi small is
 
-  value : HasValue (rooted f n) false (kept f n * 2 ^ dropped f n) (2 ^ low f)
+  value : HasValue (rooted f n) false (leading f n * 2 ^ dropped f n) (2 ^ low f)
   value =
-      subst (λ (x : Float). HasValue x false (kept f n * 2 ^ dropped f n) (2 ^ low f)) (sym (rooted-is f n))
-      (odd-sign (suc (prec f)) false (kept f n) (dropped f n) (low f))
+      subst (λ (x : Float). HasValue x false (leading f n * 2 ^ dropped f n) (2 ^ low f)) (sym (rooted-is f n))
+      (odd-sign (suc (prec f)) false (leading f n) (dropped f n) (low f))
 
-  rooted-count : count f (rooted f n) ≡ kept f n * 2 ^ dropped f n
-  rooted-count = count-is f (rooted f n) false (kept f n * 2 ^ dropped f n) value
+  rooted-count : count f (rooted f n) ≡ leading f n * 2 ^ dropped f n
+  rooted-count = count-is f (rooted f n) false (leading f n * 2 ^ dropped f n) value
 
   rooted-positive : T (positive (rooted f n))
   rooted-positive =
-      positive-of-value (rooted f n) (kept f n * 2 ^ dropped f n) (2 ^ low f) value
+      positive-of-value (rooted f n) (leading f n * 2 ^ dropped f n) (2 ^ low f) value
       (mul-pos (lt-of-lt-of-le (pow-pos (prec f - 1)) (rounding .least)) (pow-pos (dropped f n)))
 
   rooted-fits : n < 2 ^ (low f + low f + suc (emax f)) → T (fits f (rooted f n))
   rooted-fits top =
       subst (λ (x : Float). T (fits f x)) (sym (rooted-is f n))
-      (odd-fits f (suc (prec f)) false (kept f n) (dropped f n) (lt-of-le-of-lt (rounding .most) (pow-lt (up (prec f))))
+      (odd-fits f (suc (prec f)) false (leading f n) (dropped f n) (lt-of-le-of-lt (rounding .most) (pow-lt (up (prec f))))
       (rounding .most)
       (lt-of-le-of-lt (mul-le-mul-right (2 ^ dropped f n) (rounding .most))
       (lt-of-le-of-lt (le-of-eq (sym (pow-add 2 (prec f) (dropped f n))))
@@ -127,10 +127,10 @@ module _ (f : Format) (x : Float) (h : T (fits f x)) (p : T (positive x)) where
       go : (l e : ℕ) → l + suc e + l ≤ l + l + suc e
       go l e = omega arith
 
-  pub square-rounding : Rounded (prec f) (dropped f (square f x)) (square f x) (kept f (square f x))
+  pub square-rounding : Rounded (prec f) (dropped f (square f x)) (square f x) (leading f (square f x))
   square-rounding = rounding f (square f x) (sh .digits) (sh .power + low f) square-least (sh .small) square-is
 
-  pub square-count : count f (rooted f (square f x)) ≡ kept f (square f x) * 2 ^ dropped f (square f x)
+  pub square-count : count f (rooted f (square f x)) ≡ leading f (square f x) * 2 ^ dropped f (square f x)
   square-count = rooted-count f (square f x) (sh .digits) (sh .power + low f) square-least (sh .small) square-is
 
   pub square-positive : T (positive (rooted f (square f x)))
@@ -143,7 +143,7 @@ module _ (f : Format) (x : Float) (h : T (fits f x)) (p : T (positive x)) where
   rooted-nearest : Nearest f x (rooted f (square f x))
   rooted-nearest =
       let n = square f x in
-      let q = kept f n in
+      let q = leading f n in
       let k = dropped f n in
       record {
         held = square-fits;

@@ -13,7 +13,7 @@ use lib.Ieee.Bits.{ofBits-toBits}
 use lib.Ieee.Digits.{size-lt, size-le}
 use lib.Ieee.Fits.{two}
 use lib.Ieee.Positive.{positive}
-use Rattle.method.specs.Root.{dropped, kept, square, rooted}
+use Rattle.method.specs.Root.{dropped, leading, square, rooted}
 use Rattle.method.specs.Root.Grid.{double-hid}
 use Rattle.method.specs.Root.Counts.{pattern, toBits-count}
 use Rattle.method.specs.Root.Laws.{square-rounding, square-count, square-positive, square-fits}
@@ -68,16 +68,16 @@ pattern-is f k q lo hi =
 -- ---- the root's pattern, in either format
 pub squareRoot-pattern :
     (f : Format) (x : Float) → T (fits f x) → T (positive x) →
-    toBits f (rooted f (square f x)) ≡ dropped f (square f x) * hid f + kept f (square f x)
+    toBits f (rooted f (square f x)) ≡ dropped f (square f x) * hid f + leading f (square f x)
 squareRoot-pattern f x h p =
     let r = square-rounding f x h p in
     toBits-count f (rooted f (square f x)) (square-positive f x h p)
     ∙ ap (λ (z : ℕ). pattern f z) (square-count f x h p)
-    ∙ pattern-is f (dropped f (square f x)) (kept f (square f x)) (r .least) (r .most)
+    ∙ pattern-is f (dropped f (square f x)) (leading f (square f x)) (r .least) (r .most)
 
 pub root-read :
     (f : Format) (x : Float) → T (fits f x) → T (positive x) →
-    ofBits f (dropped f (square f x) * hid f + kept f (square f x)) ≡ rooted f (square f x)
+    ofBits f (dropped f (square f x) * hid f + leading f (square f x)) ≡ rooted f (square f x)
 root-read f x h p =
     ap (λ (z : ℕ). ofBits f z) (sym (squareRoot-pattern f x h p))
     ∙ ofBits-toBits f (rooted f (square f x)) (square-fits f x h p)
