@@ -1,0 +1,84 @@
+/* digest.c: one number for what both calls answer and leave on tables that are drawn by a fixed rule, so that two builds
+ * of the library can be held side by side: where they print the same number, they gave the same bits, all NaNs alike.
+ *
+ * Tables have every shape up to 48 x 48, small ones more often; readings are ordinary, tiny, huge, whole, zeros among
+ * them, repeated rows, or any bits; limits, credits and bounds are the defaults or drawn, and some calls are unfit. */
+#include "merotunki.h"
+
+#include <stdio.h>
+#include <string.h>
+
+#define TABLES 12000
+#define MOST MEROTUNKI_MOST
+
+static uint64_t state = 88172645463325252u;
+static uint64_t drawn(void) {
+    state ^= state << 13;
+    state ^= state >> 7;
+    state ^= state << 17;
+    return state;
+}
+static size_t below(size_t n) { return (size_t)((drawn() >> 16) % n); }
+static double ordinary(void) { return (double)(int64_t)(drawn() >> 12) / 2251799813685248.0 - 1.0; }
+
+static double reading(size_t kind) {
+    double x = ordinary();
+    uint64_t bits = drawn();
+    switch (kind) {
+        case 0: return x * 1e-150;
+        case 1: return x * 1e150;
+        case 2: return (double)(int)(x * 5);
+        case 3: return below(3) ? x : (below(2) ? 0.0 : -0.0);
+        case 4: return memcpy(&x, &bits, sizeof x), x;
+        case 5: return x * 1e-21;
+        default: return 3 + x;
+    }
+}
+
+static uint64_t digest = 1469598103934665603u;
+static void word(uint64_t w) {
+    for (int i = 0; i < 8; i++, w >>= 8) digest = (digest ^ (w & 255)) * 1099511628211u;
+}
+static void list(const double *a, size_t n) {
+    for (size_t i = 0; i < n; i++) {
+        uint64_t bits = 0x7FF8000000000000u;
+        if (a[i] == a[i]) memcpy(&bits, &a[i], sizeof bits);
+        word(bits);
+    }
+}
+static void told(const merotunki_answer *a) {
+    word(a->number), word(a->place), word(a->word), word(a->passes), word(a->sweeps), word(a->drops), word(a->range);
+}
+
+int main(void) {
+    static double b[MOST * MOST], c[MOST * MOST], u[MOST * MOST], v[MOST * MOST];
+    size_t accepted = 0;
+    for (int k = 0; k < TABLES; k++) {
+        size_t most = below(8) ? 12 : MOST, rows = 1 + below(most), cols = 1 + below(most), kind = below(9);
+        size_t bl = rows * cols, ul = rows * rows, vl = cols * cols;
+        merotunki_choice s;
+        merotunki_defaults(&s);
+        if (!below(2)) {
+            s.limit = below(300), s.credit = below(60);
+            s.tolerance = below(4) ? 1e-10 : 0.0, s.absolute = below(4) ? 1e-12 : 1e300;
+            s.floor = below(4) ? 1e-21 : 2.2250738585072014e-308;
+        }
+        if (!below(40)) s.floor = -1.0;
+        for (size_t i = 0; i < bl; i++) b[i] = reading(kind);
+        if (kind == 7)
+            for (size_t i = cols; i < bl; i++) b[i] = b[i - cols];
+        memcpy(c, b, bl * sizeof *b);
+        merotunki_identity(u, ul, rows);
+        merotunki_identity(v, vl, cols);
+        if (!below(4))
+            for (size_t i = 0; i < ul; i++) u[i] = ordinary();
+        merotunki_answer full, plain;
+        merotunki_full_svd(&full, b, bl, u, ul, v, vl, rows, cols, s.limit, s.credit, s.tolerance, s.absolute, s.floor);
+        merotunki_svd(&plain, c, bl, rows, cols, s.limit, s.credit, s.tolerance, s.absolute, s.floor);
+        told(&full), list(b, bl), list(u, ul), list(v, vl);
+        told(&plain), list(c, bl);
+        accepted += full.number == 0;
+    }
+    printf("%d tables, %d accepted, digest %016llx\n", TABLES, (int)accepted, (unsigned long long)digest);
+    return 0;
+}
