@@ -1,27 +1,34 @@
--- What the ordered call leaves where it refuses nothing, sentence by sentence: the order, the list, U and V entry by
--- entry, both moved back, and the product. Assumes nothing.
-use mathlib.Core.Path.{_≡_, refl, ap, _∙_}
-use mathlib.Core.Bool.{false, true}
+-- That a settled answer of the ordered call is the same at every greater limit; and what the call leaves where it
+-- refuses nothing, sentence by sentence: the order, the list, U and V entry by entry, both moved back, and the product.
+-- Assumes nothing.
+use mathlib.Core.Path.{_≡_, refl, sym, ap, _∙_}
+use mathlib.Core.Bool.{Bool, true, false}
 use mathlib.Core.List.{List}
 use Prim.Native.Nat.{ℕ, _*_, _<_, _≤_}
 use native.Mathlib.Omega.{arith}
+use lib.Dec.{eqb}
 use lib.ListN.{length, getD}
 use lib.Ieee.{Float, nan, Format, lt, eq, mul}
+use borrow.Author.Tests.{eqb-true, eqb-false}
 use Rattle.method.specs.Floats.{magnitude, signed}
 use Rattle.method.specs.Writes.{written, length-writes}
 use Rattle.method.specs.Signs.{signed-twice, sign-moves}
 use Rattle.method.specs.Work.{Work, work, packed, at}
-use Rattle.method.specs.Settings.{Settings}
+use Rattle.method.specs.Settings.{Settings, mostLimit}
+use Rattle.method.specs.Checks.{Refusal}
+use Rattle.method.specs.Report.{none, settled, wordNumber}
 use Rattle.method.specs.Lengths.{SameLengths, walkedFrom-lengths}
 use Rattle.method.specs.Outcome.{Outcome, outcomeOf, card, accepted}
+use Rattle.method.specs.Outcome.Reports.{accepted-settled, atLimit}
+use Rattle.method.specs.Outcome.Calls.{limit-accepts}
 use Rattle.method.specs.Order.{diagonal, ahead, newPlace, oldPositions, oldPosition, valuesBy, columnsMoved, uBy}
 use Rattle.method.specs.Order.{vBy}
 use Rattle.method.specs.Order.Places.{place-below, order-place}
 use Rattle.method.specs.Order.Sizes.{LargestFirst, ahead-orders, positions-first, positions-unique}
 use Rattle.method.specs.Order.Columns.{length-rowsMoved, moved, stays, moved-back}
-use Rattle.method.specs.Ordered.{orderedOf, orderedOutcome}
-use Rattle.method.specs.Ordered.Ways.{ran-on, put-in-order}
-use Rattle.method.specs.Ordered.Numbers.{card-le, Sorts}
+use Rattle.method.specs.Ordered.{Ordered, orderedOf, orderedRefusal, putInOrder, orderedOutcome}
+use Rattle.method.specs.Ordered.Ways.{lent-passed, refused-before, ran-on, foundAfter, refused-after, put-in-order}
+use Rattle.method.specs.Ordered.Numbers.{card-le, lent-none, Sorts}
 
 accepted-lengths :
     (f : Format) (rows cols : ℕ) (s : Settings) (w : Work) → SameLengths w (accepted f true rows cols s w .held)
@@ -54,6 +61,48 @@ module _ (f : Format) (rows cols : ℕ) (s : Settings) (w : Work) (l : List Floa
 
   abbrev pub newV : List Float
   newV = vBy cols c p (ran .held .v)
+
+  -- ---- a settled answer is the same at every greater allowed limit
+
+  -- the word is the run's
+  ran-word : putInOrder rows cols ran l .run .report .word ≡ ran .report .word
+  ran-word = go (eqb (foundAfter rows cols ran l .number) 0) refl
+    where
+      go :
+          (b : Bool) → eqb (foundAfter rows cols ran l .number) 0 ≡ b →
+          putInOrder rows cols ran l .run .report .word ≡ ran .report .word
+      go true t = rw (put-in-order rows cols ran l (eqb-true _ 0 t)) refl
+      go false t = rw (refused-after rows cols ran l (eqb-false _ 0 t)) refl
+
+  -- what settled was not refused before the run, and the run settled
+  pub settled-ran :
+      orderedOutcome f rows cols s w l .run .report .word ≡ settled →
+      (orderedRefusal rows cols s w l .number ≡ 0) × (ran .report .word ≡ settled)
+  settled-ran e = go (eqb (orderedRefusal rows cols s w l .number) 0) refl
+    where
+      go :
+          (b : Bool) → eqb (orderedRefusal rows cols s w l .number) 0 ≡ b →
+          (orderedRefusal rows cols s w l .number ≡ 0) × (ran .report .word ≡ settled)
+      go true t =
+          let z = eqb-true _ 0 t in
+          (z, sym ran-word ∙ ap (λ (o : Ordered). o .run .report .word) (sym (ran-on rows cols s w l f z)) ∙ e)
+      go false t =
+          let q : none ≡ settled = rw (refused-before rows cols s w l f (eqb-false _ 0 t)) at e in
+          absurd (let z : 0 ≡ 1 = ap wordNumber q in omega (arith, z))
+
+  pub ordered-stays :
+      (n : ℕ) → s .limit ≤ n → n ≤ mostLimit →
+      orderedOutcome f rows cols s w l .run .report .word ≡ settled →
+      orderedOutcome f rows cols (atLimit n s) w l ≡ orderedOutcome f rows cols s w l
+  ordered-stays n more most e =
+      let k = settled-ran e in
+      let free = lent-none rows cols s w l (k .0) in
+      let free′ =
+      ap (λ (x : Refusal). x .number) (lent-passed rows cols (atLimit n s) w l refl (free .0))
+      ∙ limit-accepts true rows cols s w n most (free .1) in
+      ran-on rows cols (atLimit n s) w l f free′
+      ∙ ap (λ (o : Outcome). putInOrder rows cols o l) (accepted-settled f true rows cols s w n more (k .1))
+      ∙ sym (ran-on rows cols s w l f (k .0))
 
   module _ (a : Sorts rows cols s w l f) where
     -- ---- the outcome is these, with the run's matrix and its report

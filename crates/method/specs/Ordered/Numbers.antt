@@ -1,7 +1,7 @@
 -- When the ordered call answers each number, before the run and after it; the place that 8 carries; and what an
 -- acceptance tells. Assumes nothing.
 use mathlib.Core.Path.{_≡_, refl, sym, ap, _∙_}
-use mathlib.Core.Logic.{_↔_}
+use mathlib.Core.Logic.{_↔_, ⊎-elim}
 use mathlib.Core.Bool.{Bool, true, false, not, _&&_, false≢true}
 use mathlib.Core.List.{List, [], _∷_, _++_}
 use Prim.Native.Nat.{ℕ, zero, suc, _+_, _<_, _≤_}
@@ -19,7 +19,7 @@ use Rattle.method.specs.Work.{Work}
 use Rattle.method.specs.Settings.{Settings}
 use Rattle.method.specs.Checks.{Check, Refusal, refusal, firstOf, refusalOf}
 use Rattle.method.specs.Checks.Tests.{Says, same, nor, both, holds, equal}
-use Rattle.method.specs.Checks.First.{first-here, first-beyond, first-placeless, Meaning, means}
+use Rattle.method.specs.Checks.First.{first-here, first-beyond, first-below, first-placeless, Meaning, means}
 use Rattle.method.specs.Checks.First.{Means, done, _⨾_, means-join, First, first-means, None, none-join}
 use Rattle.method.specs.Checks.First.{none-refused}
 use Rattle.method.specs.Checks.Table.{sizeMeanings, lengthMeanings, settingMeanings, readingMeanings}
@@ -31,7 +31,7 @@ use Rattle.method.specs.Outcome.Refused.{accepted-number}
 use Rattle.method.specs.Order.{diagonal}
 use Rattle.method.specs.Order.Sizes.{Finite}
 use Rattle.method.specs.Ordered.{lentChecks, listChecks, orderedChecks, orderedRefusal, allFinite, runChecks}
-use Rattle.method.specs.Ordered.{putInOrder, orderedOutcome}
+use Rattle.method.specs.Ordered.{Ordered, putInOrder, orderedOutcome}
 use Rattle.method.specs.Ordered.Ways.{lent-refused, lent-passed, refused-before, ran-on, foundAfter}
 use Rattle.method.specs.Ordered.Ways.{refused-after, put-in-order}
 
@@ -97,11 +97,42 @@ orderedMeanings rows cols s w l =
     lentMeanings rows cols w l ++ settingMeanings s ++ readingMeanings (w .matrix)
 
 -- 12: the run did not settle; 13: one of the first c entries of its diagonal is not finite
-abbrev pub runMeanings : ℕ → ℕ → Outcome → List Meaning
-runMeanings rows cols o =
-    means 12 (¬ (o .report .word ≡ settled))
-    ∷ means 13 (¬ Finite (card rows cols) (diagonal cols (o .held .matrix)))
+abbrev pub runMeanings : ℕ → (ℕ → Float) → Word → List Meaning
+runMeanings c d word =
+    means 12 (¬ (word ≡ settled))
+    ∷ means 13 (¬ Finite c d)
     ∷ []
+
+run-tests : (c : ℕ) (d : ℕ → Float) (word : Word) → Means (runChecks c d word) (runMeanings c d word)
+run-tests c d word = nor (settled-says word) ⨾ nor (finite-says c d) ⨾ done
+
+-- they are numbers from 12 on,
+pub run-late :
+    (c : ℕ) (d : ℕ → Float) (word : Word) → ¬ (firstOf (runChecks c d word) .number ≡ 0) →
+    12 ≤ firstOf (runChecks c d word) .number
+run-late c d word h =
+    ⊎-elim (λ x. omega (arith, x .1))
+    (λ x. ⊎-elim (λ y. omega (arith, y .1)) (λ y. absurd (h (y .1))) (x .1))
+    (first-means (run-tests c d word) _ .0 refl)
+
+-- and carry no place
+run-placeless :
+    (c : ℕ) (d : ℕ → Float) (word : Word) →
+    (firstOf (runChecks c d word) .place ≡ 0) × (¬ (firstOf (runChecks c d word) .number ≡ 8))
+run-placeless c d word = first-placeless 8 (runChecks c d word) (omega arith) refl
+
+-- what is not refused after the run settled, and is finite
+pub run-fine :
+    (c : ℕ) (d : ℕ → Float) (word : Word) → firstOf (runChecks c d word) .number ≡ 0 → (word ≡ settled) × Finite c d
+run-fine c d word e =
+    let n = none-refused (run-tests c d word) refl .0 e in (
+      settled-says word .0 (decided (isSettled word) (λ q. n .0 (λ z. q (settled-says word .1 z)))),
+      finite-says c d .0 (decided (allFinite c d) (λ q. n .1 .0 (λ z. q (finite-says c d .1 z)))),
+    )
+  where
+    decided : (b : Bool) → ((b ≡ true → ⊥) → ⊥) → b ≡ true
+    decided true h = refl
+    decided false h = absurd (h (λ e. false≢true e))
 
 lent-tests :
     (rows cols : ℕ) (w : Work) (l : List Float) → Means (lentChecks rows cols w l) (lentMeanings rows cols w l)
@@ -121,7 +152,8 @@ pub lent-fit :
 lent-fit rows cols w l e =
     let eleven = means 11 (WrongList rows cols l) ∷ [] in
     let lengths = lengthMeanings true rows cols w in
-    let p = none-join (sizeMeanings rows cols) (lengths ++ eleven) .0 (none-refused (lent-tests rows cols w l) refl .0 e) in
+    let n = none-refused (lent-tests rows cols w l) refl .0 e in
+    let p = none-join (sizeMeanings rows cols) (lengths ++ eleven) .0 n in
     let q = none-join lengths eleven .0 (p .1) in
     record { sizes = p .0; lengths = q .0; list = equal (length l) (card rows cols) (q .1 .0) }
 
@@ -165,11 +197,17 @@ module _ (rows cols : ℕ) (s : Settings) (w : Work) (l : List Float) where
     abbrev pub ran : Outcome
     ran = accepted f true rows cols s w
 
-    run-tests : Means (runChecks (card rows cols) (diagonal cols (ran .held .matrix)) (ran .report .word)) (runMeanings rows cols ran)
-    run-tests =
-        nor (settled-says (ran .report .word))
-        ⨾ nor (finite-says (card rows cols) (diagonal cols (ran .held .matrix)))
-        ⨾ done
+    -- what is checked after it, and what that means
+    abbrev after : List Check
+    after = runChecks (card rows cols) (diagonal cols (ran .held .matrix)) (ran .report .word)
+
+    abbrev pub afterMeanings : List Meaning
+    afterMeanings = runMeanings (card rows cols) (diagonal cols (ran .held .matrix)) (ran .report .word)
+
+    all-tests : Means (orderedChecks rows cols s w l ++ after) (orderedMeanings rows cols s w l ++ afterMeanings)
+    all-tests =
+        means-join ordered-tests
+        (run-tests (card rows cols) (diagonal cols (ran .held .matrix)) (ran .report .word))
 
     -- the number that is put on a run's report is that of the first check after it
     after-number : putInOrder rows cols ran l .run .report .refusal .number ≡ foundAfter rows cols ran l .number
@@ -186,14 +224,9 @@ module _ (rows cols : ℕ) (s : Settings) (w : Work) (l : List Float) where
     -- the number that the call answers is that of the first of all checks, before and after
     ordered-number :
         orderedOutcome f rows cols s w l .run .report .refusal .number
-        ≡ firstOf
-        (orderedChecks rows cols s w l
-        ++ runChecks (card rows cols) (diagonal cols (ran .held .matrix)) (ran .report .word)) .number
+        ≡ firstOf (orderedChecks rows cols s w l ++ after) .number
     ordered-number = go (eqb (orderedRefusal rows cols s w l .number) 0) refl
       where
-        after : List Check
-        after = runChecks (card rows cols) (diagonal cols (ran .held .matrix)) (ran .report .word)
-
         go :
             (b : Bool) → eqb (orderedRefusal rows cols s w l .number) 0 ≡ b →
             orderedOutcome f rows cols s w l .run .report .refusal .number
@@ -213,8 +246,73 @@ module _ (rows cols : ℕ) (s : Settings) (w : Work) (l : List Float) where
     pub ordered-numbers :
         (k : ℕ) →
         (orderedOutcome f rows cols s w l .run .report .refusal .number ≡ k)
-        ↔ First k (orderedMeanings rows cols s w l ++ runMeanings rows cols ran)
-    ordered-numbers k = rw ordered-number (first-means (means-join ordered-tests run-tests) k)
+        ↔ First k (orderedMeanings rows cols s w l ++ afterMeanings)
+    ordered-numbers k = rw ordered-number (first-means all-tests k)
+
+    -- ---- before the run or after it
+
+    -- the number of the answer, as one name
+    abbrev pub answers : ℕ
+    answers = orderedOutcome f rows cols s w l .run .report .refusal .number
+
+    before-number : ¬ (orderedRefusal rows cols s w l .number ≡ 0) → answers ≡ orderedRefusal rows cols s w l .number
+    before-number h = ap (λ (o : Ordered). o .run .report .refusal .number) (refused-before rows cols s w l f h)
+
+    ran-number : orderedRefusal rows cols s w l .number ≡ 0 → answers ≡ foundAfter rows cols ran l .number
+    ran-number e = ap (λ (o : Ordered). o .run .report .refusal .number) (ran-on rows cols s w l f e) ∙ after-number
+
+    -- a number below 12 was given before the run,
+    pub ordered-before : ¬ (answers ≡ 0) → answers < 12 → ¬ (orderedRefusal rows cols s w l .number ≡ 0)
+    ordered-before h low e =
+        let n = ran-number e in
+        let late =
+        run-late (card rows cols) (diagonal cols (ran .held .matrix)) (ran .report .word) (λ z. h (n ∙ z)) in
+        omega (arith, low, n, late)
+
+    -- any other after it
+    pub ordered-after : 12 ≤ answers → orderedRefusal rows cols s w l .number ≡ 0
+    ordered-after high = go (eqb (orderedRefusal rows cols s w l .number) 0) refl
+      where
+        go :
+            (b : Bool) → eqb (orderedRefusal rows cols s w l .number) 0 ≡ b →
+            orderedRefusal rows cols s w l .number ≡ 0
+        go true t = eqb-true _ 0 t
+        go false t =
+            absurd
+            (omega
+            (arith, high, before-number (eqb-false _ 0 t), first-below 12 (orderedChecks rows cols s w l) refl))
+
+    pub ordered-found : 12 ≤ answers → ¬ (foundAfter rows cols ran l .number ≡ 0)
+    ordered-found high e = omega (arith, high, ran-number (ordered-after high), e)
+
+    accepted-refusal : ran .report .refusal ≡ refusal 0 0
+    unfolding accepted
+    accepted-refusal = refl
+
+    -- the place of the answer
+    pub answer-place : Place true rows cols s w (orderedOutcome f rows cols s w l .run .report .refusal)
+    answer-place =
+        go (eqb (orderedRefusal rows cols s w l .number) 0) refl (eqb (foundAfter rows cols ran l .number) 0) refl
+      where
+        none-placed : Place true rows cols s w (refusal 0 0)
+        none-placed = record { eight = λ z. absurd (omega (arith, z)); other = λ h. refl }
+
+        go :
+            (b : Bool) → eqb (orderedRefusal rows cols s w l .number) 0 ≡ b →
+            (b′ : Bool) → eqb (foundAfter rows cols ran l .number) 0 ≡ b′ →
+            Place true rows cols s w (orderedOutcome f rows cols s w l .run .report .refusal)
+        go true t true t′ =
+            rw (
+              ran-on rows cols s w l f (eqb-true _ 0 t),
+              put-in-order rows cols ran l (eqb-true _ 0 t′),
+              accepted-refusal,
+            )
+            none-placed
+        go true t false t′ =
+            let q = run-placeless (card rows cols) (diagonal cols (ran .held .matrix)) (ran .report .word) in
+            rw (ran-on rows cols s w l f (eqb-true _ 0 t), refused-after rows cols ran l (eqb-false _ 0 t′))
+            record { eight = λ z. absurd (q .1 z); other = λ h. q .0 }
+        go false t b′ t′ = rw (refused-before rows cols s w l f (eqb-false _ 0 t)) ordered-place
 
     -- ---- what an acceptance tells
 
@@ -231,23 +329,19 @@ module _ (rows cols : ℕ) (s : Settings) (w : Work) (l : List Float) where
 
     pub sorts : orderedOutcome f rows cols s w l .run .report .refusal .number ≡ 0 → Sorts
     sorts e =
-        let all = none-refused (means-join ordered-tests run-tests) refl .0 (sym ordered-number ∙ e) in
-        let both = none-join (orderedMeanings rows cols s w l) (runMeanings rows cols ran) .0 all in
+        let all = none-refused all-tests refl .0 (sym ordered-number ∙ e) in
+        let both = none-join (orderedMeanings rows cols s w l) afterMeanings .0 all in
         let free = none-refused ordered-tests refl .1 (both .0) in
         let lent = lent-none free in
+        let c = card rows cols in
+        let d = diagonal cols (ran .held .matrix) in
+        let clear = none-refused (run-tests c d (ran .report .word)) refl .1 (both .1) in
+        let ends = run-fine c d (ran .report .word) clear in
         record {
           fits = fit true rows cols s w (lent .1);
           list = lent-fit rows cols w l (lent .0) .list;
-          settles =
-              settled-says (ran .report .word) .0
-              (not-not (isSettled (ran .report .word)) (λ q. both .1 .0 (λ z. q (settled-says (ran .report .word) .1 z))));
-          fine =
-              finite-says (card rows cols) (diagonal cols (ran .held .matrix)) .0
-              (not-not _ (λ q. both .1 .1 .0 (λ z. q (finite-says (card rows cols) (diagonal cols (ran .held .matrix)) .1 z))));
+          settles = ends .0;
+          fine = ends .1;
           before = free;
-          after = none-refused run-tests refl .1 (both .1);
+          after = clear;
         }
-      where
-        not-not : (b : Bool) → ((b ≡ true → ⊥) → ⊥) → b ≡ true
-        not-not true h = refl
-        not-not false h = absurd (h (λ e. false≢true e))
