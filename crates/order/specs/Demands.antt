@@ -2,13 +2,13 @@
 -- what it was lent. It goes with the demands on the two calls beneath (svd's Demands). First the statements, then that
 -- they hold of every answer, and what holds of two calls. They lean on the definition: `orderedOutcome`, `accepted`, and
 -- the lists `orderedMeanings` and `runMeanings` (method's Ordered, Outcome, Ordered.Numbers). Assumes nothing.
-use mathlib.Core.Path.{_≡_, refl, sym, ap, _∙_}
+use mathlib.Core.Path.{_≡_, sym, ap, _∙_}
 use mathlib.Core.Logic.{_↔_, _⊎_}
-use mathlib.Core.Bool.{Bool, true, false}
+use mathlib.Core.Bool.{true, false}
 use mathlib.Core.List.{List, _++_}
 use Prim.Native.Nat.{ℕ, _*_, _≤_, _<_}
 use lib.ListN.{length, getD}
-use lib.Ieee.{Float, Format, nan, binary64, lt, eq, mul}
+use lib.Ieee.{Float, nan, binary64, lt, eq, mul}
 use Rattle.method.specs.Floats.{magnitude, signed}
 use Rattle.method.specs.Work.{Work, at}
 use Rattle.method.specs.Settings.{mostLimit}

@@ -1,20 +1,18 @@
 -- What an answer that the promise of the ordered call allows is made of: the refusal that it tells, and the run that it
 -- comes from. Assumes nothing.
-use mathlib.Core.Path.{_≡_, refl, sym, ap, _∙_}
+use mathlib.Core.Path.{_≡_, sym, ap, _∙_}
 use mathlib.Core.Logic.{_⊎_, inl, inr}
 use mathlib.Core.Bool.{true}
 use mathlib.Core.List.{List}
 use Prim.Native.Nat.{ℕ, _≤_, _<_}
-use native.Mathlib.Omega.{arith}
 use lib.Ieee.{Float, binary64}
 use Rattle.method.specs.Work.{Work}
 use Rattle.method.specs.Walk as Walk
-use Rattle.method.specs.Checks.{Refusal, refusalOf}
 use Rattle.method.specs.Checks.Table.{Place}
 use Rattle.method.specs.Report as Report
 use Rattle.method.specs.Report.{refused}
 use Rattle.method.specs.Outcome.{Outcome, outcomeOf, accepted, outcome}
-use Rattle.method.specs.Outcome.Refused.{accepted-outcome, outcome-number}
+use Rattle.method.specs.Outcome.Refused.{accepted-outcome}
 use Rattle.method.specs.Ordered.{Ordered, orderedOf, orderedRefusal, refusedAfter, orderedOutcome}
 use Rattle.method.specs.Ordered.Ways.{refused-before, ran-on, foundAfter, refused-after}
 use Rattle.method.specs.Ordered.Numbers.{answers, ordered-before, ordered-after, ordered-found, answer-place, lent-none}

@@ -6,7 +6,7 @@ ghost use lib.Ieee.{nan};
 ghost use Rattle.method.specs.Floats.{signedIf};
 ghost use Rattle.method.specs.Repeated.{repeated};
 ghost use Rattle.method.specs.Settings.{mostSize};
-ghost use Rattle.method.specs.Order.{diagonal, columnsMoved};
+ghost use Rattle.method.specs.Order.{columnsMoved};
 ghost use Rattle.order.specs.Room.{Room, Within, listed, signsBy};
 use float::negative;
 

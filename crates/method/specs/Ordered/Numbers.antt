@@ -2,7 +2,7 @@
 -- acceptance tells. Assumes nothing.
 use mathlib.Core.Path.{_≡_, refl, sym, ap, _∙_}
 use mathlib.Core.Logic.{_↔_, ⊎-elim}
-use mathlib.Core.Bool.{Bool, true, false, not, _&&_, false≢true}
+use mathlib.Core.Bool.{Bool, true, false, _&&_, false≢true}
 use mathlib.Core.List.{List, [], _∷_, _++_}
 use Prim.Native.Nat.{ℕ, zero, suc, _+_, _<_, _≤_}
 use native.Mathlib.Nat.{not-suc-le-zero}
@@ -30,7 +30,7 @@ use Rattle.method.specs.Outcome.{Outcome, card, accepted}
 use Rattle.method.specs.Outcome.Refused.{accepted-number}
 use Rattle.method.specs.Order.{diagonal}
 use Rattle.method.specs.Order.Sizes.{Finite}
-use Rattle.method.specs.Ordered.{lentChecks, listChecks, orderedChecks, orderedRefusal, allFinite, runChecks}
+use Rattle.method.specs.Ordered.{lentChecks, orderedChecks, orderedRefusal, allFinite, runChecks}
 use Rattle.method.specs.Ordered.{Ordered, putInOrder, orderedOutcome}
 use Rattle.method.specs.Ordered.Ways.{lent-refused, lent-passed, refused-before, ran-on, foundAfter}
 use Rattle.method.specs.Ordered.Ways.{refused-after, put-in-order}
