@@ -1,6 +1,6 @@
-/* digest.c: one number for what the plain and the accumulating call answer and leave on tables that are drawn by a fixed
- * rule, and one for what the ordered call does on the same, so that two builds of the library can be held side by side:
- * where they print the same numbers, they gave the same bits, all NaNs alike.
+/* digest.c: one number for what the plain and the accumulating call answer and leave on tables drawn by a fixed rule,
+ * and one for what the ordered call does on the same, so that two builds of the library can be held side by side: where
+ * they print the same numbers, they gave the same bits, all NaNs alike.
  *
  * Tables have every shape up to 48 x 48, small ones more often; readings are ordinary, tiny, huge, whole, zeros among
  * them, repeated rows, or any bits; limits, credits and bounds are the defaults or drawn, and some calls are unfit. */
