@@ -171,7 +171,7 @@ static void refusals(void) {
     REFUSED(11, 0, now.values_length = 2);
     REFUSED(11, 0, now.values_length = 4);
     REFUSED(11, 0, now.values_length = 0);
-    REFUSED(11, 0, now.values_length = SIZE_MAX);
+    REFUSED(11, 0, now.values_length = MOST + 2);
     REFUSED(11, 0, prepare(&now, 3, 4); now.values_length = 4);
     REFUSED(6, 0, now.limit = 100001);
     REFUSED(6, 0, now.limit = SIZE_MAX);

@@ -99,6 +99,7 @@ impl<'a> Table<'a> {
     /// assert!(matches!(unordered.run, Some((Report::Stopped { range: 2, .. }, _))));
     /// # Ok::<(), Refusal>(())
     /// ```
+    #[allow(clippy::result_large_err)] // what is handed out where it is accepted is as large
     pub fn split_in_order(
         &mut self,
         values: &mut [f64],

@@ -119,19 +119,17 @@ fn every_number_comes_first_and_writes_nothing() {
 // After the run: all is as the accumulating call leaves it, but the number. The list is as it was.
 #[test]
 fn two_numbers_come_after_the_run() {
-    let plain = fit().choice;
-    let short = Choice { limit: 3, ..plain };
-    let settled = [1, 0, 0, 0, 1];
-    let cases: [(u64, usize, usize, &[f64], Choice, [u64; 5]); 4] = [
-        (12, 2, 2, &[0.0; 4], short, [2, 3, 3, 0, 2]),
-        (13, 1, 2, &[f64::MAX; 2], plain, settled),
-        (13, 2, 1, &[f64::MAX; 2], plain, settled),
-        (13, 3, 2, &[1.0, 0.0, 0.0, f64::MAX, 0.0, f64::MAX], plain, [1, 1, 0, 1, 1]),
+    let choice = Choice { limit: 3, ..fit().choice };
+    // number, rows, columns, readings, and the answer's words from the word on
+    let cases = [
+        (12, 2, 2, vec![0.0; 4], [2, 3, 3, 0, 2]),
+        (13, 1, 2, vec![f64::MAX; 2], [1, 0, 0, 0, 1]),
+        (13, 2, 1, vec![f64::MAX; 2], [1, 0, 0, 0, 1]),
+        (13, 3, 2, vec![1.0, 0.0, 0.0, f64::MAX, 0.0, f64::MAX], [1, 1, 0, 1, 1]),
     ];
-    for (number, rows, columns, readings, choice, counts) in cases {
+    for (number, rows, columns, mut m, counts) in cases {
         let square = |n: usize| (0..n * n).map(|i| f64::from(i / n == i % n)).collect();
-        let (mut m, mut u, mut v): (_, Vec<f64>, Vec<f64>) =
-            (readings.to_vec(), square(rows), square(columns));
+        let (mut u, mut v): (Vec<f64>, Vec<f64>) = (square(rows), square(columns));
         let (mut by_m, mut by_u, mut by_v) = (m.clone(), u.clone(), v.clone());
         let run = full_svd(&mut m, (&mut u, &mut v), rows, columns, choice);
         let mut values = vec![7.0; rows.min(columns)];

@@ -125,12 +125,18 @@ fn in_order_of_size() {
         assert_eq!(bits(&b), bits(&a));
     }
     assert!(moved > 0);
-    // -0 has its sign bit set, too
-    let (mut a, mut values) = ([-0.0, 0.0, 0.0, 3.0], [7.0; 2]);
-    let mut table = Table::new(&mut a, 2, 2).unwrap();
-    let factors = table.split_in_order(&mut values, &Settings::default()).unwrap().1;
-    assert_eq!(bits(&values), bits(&[3.0, 0.0]));
-    assert_eq!(rows(&factors, 2, 2), (vec![0.0, -1.0, 1.0, 0.0], vec![0.0, 1.0, 1.0, 0.0]));
+    let ordered = |mut a: [f64; 4]| {
+        let mut values = [7.0; 2];
+        let mut table = Table::new(&mut a, 2, 2).unwrap();
+        let factors = table.split_in_order(&mut values, &Settings::default()).unwrap().1;
+        (bits(&values), rows(&factors, 2, 2))
+    };
+    // -0 has its sign bit set, too; of -1 and 1 the first one stays the first
+    let turned = vec![0.0, 1.0, 1.0, 0.0];
+    let wanted = (bits(&[3.0, 0.0]), (vec![0.0, -1.0, 1.0, 0.0], turned));
+    assert_eq!(ordered([-0.0, 0.0, 0.0, 3.0]), wanted);
+    let identity = vec![1.0, 0.0, 0.0, 1.0];
+    assert_eq!(ordered([1.0, 0.0, 0.0, 1.0]), (bits(&[1.0; 2]), (identity.clone(), identity)));
 }
 
 #[test]
