@@ -287,7 +287,7 @@ static int put_in_order(const job *run, const job *out) {
 }
 
 /* Whether the ordered call on this job is refused by that number after its run: all is as the accumulating call leaves
- * it, word and counts too, and the list is as it was. Where it is, `after` is what was left. */
+ * it, word and counts too, and the list is as it was. Then `after` is what was left, but for the number, which is 0. */
 static job after;
 static int refused_after_run(const job *start, uint64_t number) {
     static job run;
