@@ -32,9 +32,9 @@
  *   - The thread's floating point is as C starts it: round to nearest, subnormal numbers kept (no flush to zero).
  *
  * MEMORY AND THREADS. No heap, no global state, no locks, no files; of other libraries memcpy and memset alone (on
- * iOS bzero) are called. Several threads may call at once, each on buffers of its own. A call uses less than 2,048
- * bytes of stack: measured, 1,584 on 64-bit Arm and 1,664 on x86-64 at most. On 64-bit Arm x18 is left alone: a caller
- * built with a shadow call stack keeps it.
+ * iOS bzero) are called. Several threads may call at once, each on buffers of its own. merotunki_ordered_svd uses less
+ * than 3,072 bytes of stack, every other call less than 2,048: measured, at most 2,608 and 1,712 on 64-bit Arm, 2,704
+ * and 1,856 on x86-64. On 64-bit Arm x18 is left alone: a caller built with a shadow call stack keeps it.
  *
  * HOW THE CALLS ARE MADE. A slice is a pointer and a length, one after the other. An answer or choice is written where
  * the first argument points, and that pointer is handed back. On x86-64 (System V, so not Windows) this is also how C
