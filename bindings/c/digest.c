@@ -1,5 +1,6 @@
-/* digest.c: one number for what both calls answer and leave on tables that are drawn by a fixed rule, so that two builds
- * of the library can be held side by side: where they print the same number, they gave the same bits, all NaNs alike.
+/* digest.c: one number for what the plain and the accumulating call answer and leave on tables drawn by a fixed rule,
+ * and one for what the ordered call does on the same, so that two builds of the library can be held side by side: where
+ * they print the same numbers, they gave the same bits, all NaNs alike.
  *
  * Tables have every shape up to 48 x 48, small ones more often; readings are ordinary, tiny, huge, whole, zeros among
  * them, repeated rows, or any bits; limits, credits and bounds are the defaults or drawn, and some calls are unfit. */
@@ -35,9 +36,10 @@ static double reading(size_t kind) {
     }
 }
 
-static uint64_t digest = 1469598103934665603u;
+#define EMPTY 1469598103934665603u
+static uint64_t two_calls = EMPTY, in_order = EMPTY, *digest;
 static void word(uint64_t w) {
-    for (int i = 0; i < 8; i++, w >>= 8) digest = (digest ^ (w & 255)) * 1099511628211u;
+    for (int i = 0; i < 8; i++, w >>= 8) *digest = (*digest ^ (w & 255)) * 1099511628211u;
 }
 static void list(const double *a, size_t n) {
     for (size_t i = 0; i < n; i++) {
@@ -51,11 +53,12 @@ static void told(const merotunki_answer *a) {
 }
 
 int main(void) {
-    static double b[MOST * MOST], c[MOST * MOST], u[MOST * MOST], v[MOST * MOST];
-    size_t accepted = 0;
+    static double b[MOST * MOST], c[MOST * MOST], d[MOST * MOST], u[MOST * MOST], v[MOST * MOST];
+    static double ordered_u[MOST * MOST], ordered_v[MOST * MOST], values[MOST];
+    size_t accepted = 0, ordered = 0;
     for (int k = 0; k < TABLES; k++) {
         size_t most = below(8) ? 12 : MOST, rows = 1 + below(most), cols = 1 + below(most), kind = below(9);
-        size_t bl = rows * cols, ul = rows * rows, vl = cols * cols;
+        size_t bl = rows * cols, ul = rows * rows, vl = cols * cols, wl = rows < cols ? rows : cols;
         merotunki_choice s;
         merotunki_defaults(&s);
         if (!below(2)) {
@@ -68,17 +71,28 @@ int main(void) {
         if (kind == 7)
             for (size_t i = cols; i < bl; i++) b[i] = b[i - cols];
         memcpy(c, b, bl * sizeof *b);
+        memcpy(d, b, bl * sizeof *b);
         merotunki_identity(u, ul, rows);
         merotunki_identity(v, vl, cols);
         if (!below(4))
             for (size_t i = 0; i < ul; i++) u[i] = ordinary();
-        merotunki_answer full, plain;
+        memcpy(ordered_u, u, ul * sizeof *u);
+        memcpy(ordered_v, v, vl * sizeof *v);
+        for (size_t i = 0; i < wl; i++) values[i] = (double)i;
+        merotunki_answer full, plain, sorted;
         merotunki_full_svd(&full, b, bl, u, ul, v, vl, rows, cols, s.limit, s.credit, s.tolerance, s.absolute, s.floor);
         merotunki_svd(&plain, c, bl, rows, cols, s.limit, s.credit, s.tolerance, s.absolute, s.floor);
+        merotunki_ordered_svd(&sorted, d, bl, ordered_u, ul, ordered_v, vl, values, wl - (k % 64 == 0), rows, cols,
+                              s.limit, s.credit, s.tolerance, s.absolute, s.floor);
+        digest = &two_calls;
         told(&full), list(b, bl), list(u, ul), list(v, vl);
         told(&plain), list(c, bl);
+        digest = &in_order;
+        told(&sorted), list(d, bl), list(ordered_u, ul), list(ordered_v, vl), list(values, wl);
         accepted += full.number == 0;
+        ordered += sorted.number == 0;
     }
-    printf("%d tables, %d accepted, digest %016llx\n", TABLES, (int)accepted, (unsigned long long)digest);
+    printf("%d tables, %d accepted, digest %016llx; %d put in order, digest %016llx\n", TABLES, (int)accepted,
+           (unsigned long long)two_calls, (int)ordered, (unsigned long long)in_order);
     return 0;
 }

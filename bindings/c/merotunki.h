@@ -8,16 +8,22 @@
  * columns x columns entries and goes with the passes. Sizes are 1 to 48 each.
  *
  * REFUSALS. Any numbers may be handed in. What is unfit is refused by number, checked in this order; nothing else is
- * refused, and a refused call writes nothing but its answer:
+ * refused, and a call refused by 1 to 8 or 11 writes nothing but its answer:
  *   0  accepted
  *   1  rows or columns is 0
  *   2  rows or columns is above 48
  *   3  the matrix has not rows x columns entries
  *   4  U has not rows x rows entries (the identity: not n x n)
  *   5  V has not columns x columns entries
+ *  11  the list of values has not as many entries as the smaller of rows and columns
  *   6  the limit is above 100,000 or the credit above 1,000
  *   7  tolerance or absolute is below zero, infinite or NaN (-0 is allowed), or floor is not above zero or not finite
  *   8  a reading is infinite or NaN; `place` is the first one's index in the matrix
+ *  12  the run stopped, so that its values are not final
+ *  13  the run settled, and a value on the diagonal is infinite or NaN
+ * 11, 12 and 13 are merotunki_ordered_svd's alone. 12 and 13 are the one exception to what a refusal writes: they come
+ * after the run, so matrix, U and V are as the run leaves them, and the answer has the run's word and counts. The list
+ * of values is as it was.
  *
  * WHAT A C CALLER SEES TO, since no library can check it:
  *   - Each pointer is good for as many entries as the length after it says, and aligned as its type is. A pointer with
@@ -26,9 +32,9 @@
  *   - The thread's floating point is as C starts it: round to nearest, subnormal numbers kept (no flush to zero).
  *
  * MEMORY AND THREADS. No heap, no global state, no locks, no files; of other libraries memcpy and memset alone (on
- * iOS bzero) are called. Several threads may call at once, each on buffers of its own. A call uses less than 2,048
- * bytes of stack: measured, 1,584 on 64-bit Arm and 1,664 on x86-64 at most. On 64-bit Arm x18 is left alone: a caller
- * built with a shadow call stack keeps it.
+ * iOS bzero) are called. Several threads may call at once, each on buffers of its own. merotunki_ordered_svd uses less
+ * than 3,072 bytes of stack, every other call less than 2,048: measured, at most 2,608 and 1,712 on 64-bit Arm, 2,704
+ * and 1,856 on x86-64. On 64-bit Arm x18 is left alone: a caller built with a shadow call stack keeps it.
  *
  * HOW THE CALLS ARE MADE. A slice is a pointer and a length, one after the other. An answer or choice is written where
  * the first argument points, and that pointer is handed back. On x86-64 (System V, so not Windows) this is also how C
@@ -48,7 +54,7 @@ extern "C" {
 
 /* The version of library and header, and the number of the layout of the structs below. The layout rises whenever a
  * struct changes, so that a program built for one is not run on another. */
-#define MEROTUNKI_VERSION "0.2.0"
+#define MEROTUNKI_VERSION "0.3.0"
 #define MEROTUNKI_LAYOUT 1
 
 /* The largest number of rows and of columns, and the largest limit and credit. */
@@ -57,7 +63,7 @@ extern "C" {
 #define MEROTUNKI_MOST_CREDIT 1000
 
 /* The words of an answer. */
-#define MEROTUNKI_NONE 0    /* refused */
+#define MEROTUNKI_NONE 0    /* refused, and nothing was run */
 #define MEROTUNKI_SETTLED 1 /* every coupling was found negligible; range is 1 */
 #define MEROTUNKI_STOPPED 2 /* the limit ran out before; range is above 1. Read the values with that in mind. */
 
@@ -65,9 +71,10 @@ extern "C" {
 #define MEROTUNKI_U 0
 #define MEROTUNKI_V 1
 
-/* What a split answers. In a refusal all but number and place is 0. */
+/* What a split answers. In a refusal all but number and place is 0; with 12 and 13 all but number and place is the
+ * run's. */
 typedef struct merotunki_answer {
-    uint64_t number; /* 0 accepted, 1 to 8 refused */
+    uint64_t number; /* 0 accepted, 1 to 8 and 11 to 13 refused */
     uint64_t place;  /* for number 8 the index of the first bad reading, else 0 */
     uint64_t word;   /* MEROTUNKI_NONE, MEROTUNKI_SETTLED or MEROTUNKI_STOPPED */
     uint64_t passes; /* of the walk: each is a sweep or a drop */
@@ -114,6 +121,19 @@ merotunki_answer *merotunki_svd(merotunki_answer *answer, double *matrix, size_t
 merotunki_answer *merotunki_full_svd(merotunki_answer *answer, double *matrix, size_t matrix_length, double *u,
                                      size_t u_length, double *v, size_t v_length, size_t rows, size_t columns,
                                      size_t limit, size_t credit, double tolerance, double absolute, double floor);
+
+/* The split of merotunki_full_svd, and then its values in order of size. With c the smaller of rows and columns:
+ *   - `values` holds the c magnitudes of the diagonal, largest first; equal ones in the order of the diagonal.
+ *   - The first c columns of U and V have moved with their values: column k of U, values[k] and column k of V belong
+ *     together. Where the value was below zero or -0 on the diagonal, its column of U is negated. Other columns stay.
+ *   - The matrix is as merotunki_full_svd leaves it: its diagonal is in no order and of either sign.
+ * So from U and V that began as the identity the table as it was is the sum over k of
+ * values[k] x (column k of U) x (column k of V, transposed), but for rounding and what stays beside the diagonal.
+ * Refuses with 1 to 8 and 11 before the run, with 12 and 13 after it. */
+merotunki_answer *merotunki_ordered_svd(merotunki_answer *answer, double *matrix, size_t matrix_length, double *u,
+                                        size_t u_length, double *v, size_t v_length, double *values,
+                                        size_t values_length, size_t rows, size_t columns, size_t limit, size_t credit,
+                                        double tolerance, double absolute, double floor);
 
 /* Fills a with the identity of n rows and n columns. Answers 0, or refuses with 1, 2 or 4. */
 uint64_t merotunki_identity(double *a, size_t a_length, size_t n);

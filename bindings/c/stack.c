@@ -24,11 +24,15 @@
 #define FULL_LIST \
     merotunki_answer *answer, double *m, size_t ml, double *u, size_t ul, double *v, size_t vl, size_t r, size_t c, \
         size_t limit, size_t credit, double t, double a, double f
+#define ORDERED_LIST \
+    merotunki_answer *answer, double *m, size_t ml, double *u, size_t ul, double *v, size_t vl, double *w, size_t wl, \
+        size_t r, size_t c, size_t limit, size_t credit, double t, double a, double f
 #define ROW_LIST const double *u, size_t ul, const double *v, size_t vl, size_t r, size_t c, size_t side, size_t row
 
 typedef struct calls {
     merotunki_answer *(*svd)(SVD_LIST);
     merotunki_answer *(*full)(FULL_LIST);
+    merotunki_answer *(*ordered)(ORDERED_LIST);
     uint64_t (*identity)(double *a, size_t al, size_t n);
     merotunki_part (*row)(ROW_LIST);
     double (*root)(double x);
@@ -39,6 +43,7 @@ typedef struct calls {
 #pragma GCC diagnostic ignored "-Wunused-parameter"
 static merotunki_answer *no_svd(SVD_LIST) { return answer; }
 static merotunki_answer *no_full(FULL_LIST) { return answer; }
+static merotunki_answer *no_ordered(ORDERED_LIST) { return answer; }
 static uint64_t no_identity(double *a, size_t al, size_t n) { return 0; }
 static merotunki_part no_row(ROW_LIST) { return (merotunki_part){0, 0}; }
 static double no_root(double x) { return x; }
@@ -46,14 +51,14 @@ static merotunki_choice *no_defaults(merotunki_choice *choice) { return choice; 
 static uint64_t no_layout(void) { return 0; }
 #pragma GCC diagnostic warning "-Wunused-parameter"
 
-static const calls real = {merotunki_svd,         merotunki_full_svd, merotunki_identity, merotunki_row,
-                           merotunki_square_root, merotunki_defaults, merotunki_layout};
-static const calls none = {no_svd, no_full, no_identity, no_row, no_root, no_defaults, no_layout};
+static const calls real = {merotunki_svd, merotunki_full_svd,    merotunki_ordered_svd, merotunki_identity,
+                           merotunki_row, merotunki_square_root, merotunki_defaults,    merotunki_layout};
+static const calls none = {no_svd, no_full, no_ordered, no_identity, no_row, no_root, no_defaults, no_layout};
 static const calls *volatile chosen; /* not known to the compiler, so that none of them is left out */
 
 /* What the next call is made on. */
 static size_t rows, columns, limit, number;
-static double matrix[ENTRIES], u[ENTRIES], v[ENTRIES], value;
+static double matrix[ENTRIES], u[ENTRIES], v[ENTRIES], values[MOST], value;
 static merotunki_answer answer;
 static merotunki_choice choice;
 static merotunki_part part;
@@ -64,6 +69,10 @@ static void svd(void) {
 static void full(void) {
     chosen->full(&answer, matrix, rows * columns, u, rows * rows, v, columns * columns, rows, columns, limit, 50, 1e-10,
                  1e-12, 1e-21);
+}
+static void ordered(void) {
+    chosen->ordered(&answer, matrix, rows * columns, u, rows * rows, v, columns * columns, values,
+                    rows < columns ? rows : columns, rows, columns, limit, 50, 1e-10, 1e-12, 1e-21);
 }
 static void identity(void) { number = chosen->identity(u, rows * rows, rows); }
 static void row(void) { part = chosen->row(u, rows * rows, v, columns * columns, rows, columns, limit % 3, rows - 1); }
@@ -130,6 +139,7 @@ static void most(const char *name, void (*call)(void), int reports) {
 static void *measure(void *given) {
     most("merotunki_svd", svd, 1);
     most("merotunki_full_svd", full, 1);
+    most("merotunki_ordered_svd", ordered, 1);
     most("merotunki_identity", identity, 1);
     most("merotunki_row", row, 0);
     most("merotunki_square_root", root, 0);

@@ -2,6 +2,7 @@
  * answers. Prints each check that fails with its line, then `N checks passed`; status 1 where one failed. */
 #include "merotunki.h"
 
+#include <float.h>
 #include <math.h>
 #include <pthread.h>
 #include <stdio.h>
@@ -47,9 +48,9 @@ static void draw(double *a, size_t length) {
 
 /* A call and all that it is lent. */
 typedef struct job {
-    size_t rows, columns, matrix_length, u_length, v_length, limit, credit;
+    size_t rows, columns, matrix_length, u_length, v_length, values_length, limit, credit;
     double tolerance, absolute, floor;
-    double matrix[LONG], u[LONG], v[LONG];
+    double matrix[LONG], u[LONG], v[LONG], values[MOST + 2];
     merotunki_answer answer;
 } job;
 
@@ -58,9 +59,11 @@ static void prepare(job *j, size_t rows, size_t columns) {
     merotunki_defaults(&choice);
     j->rows = rows, j->columns = columns;
     j->matrix_length = rows * columns, j->u_length = rows * rows, j->v_length = columns * columns;
+    j->values_length = rows < columns ? rows : columns;
     j->limit = choice.limit, j->credit = choice.credit;
     j->tolerance = choice.tolerance, j->absolute = choice.absolute, j->floor = choice.floor;
     draw(j->matrix, LONG);
+    draw(j->values, MOST + 2);
     merotunki_identity(j->u, rows * rows, rows);
     merotunki_identity(j->v, columns * columns, columns);
     memset(&j->answer, 0xAA, sizeof j->answer);
@@ -78,6 +81,12 @@ static merotunki_answer *full(job *j) {
                               j->columns, j->limit, j->credit, j->tolerance, j->absolute, j->floor);
 }
 
+static merotunki_answer *ordered(job *j) {
+    return merotunki_ordered_svd(&j->answer, j->matrix, j->matrix_length, j->u, j->u_length, j->v, j->v_length,
+                                 j->values, j->values_length, j->rows, j->columns, j->limit, j->credit, j->tolerance,
+                                 j->absolute, j->floor);
+}
+
 static int answered(const job *j, uint64_t word, uint64_t passes, uint64_t sweeps, uint64_t drops, uint64_t range) {
     merotunki_answer a = {.word = word, .passes = passes, .sweeps = sweeps, .drops = drops, .range = range};
     return memcmp(&a, &j->answer, sizeof a) == 0;
@@ -85,14 +94,30 @@ static int answered(const job *j, uint64_t word, uint64_t passes, uint64_t sweep
 
 static int same(const double *a, const double *b, size_t length) { return memcmp(a, b, length * sizeof *a) == 0; }
 
+/* Equal as numbers: 0 is -0. */
+static int equal(const double *a, const double *b, size_t length) {
+    for (size_t i = 0; i < length; i++)
+        if (a[i] != b[i]) return 0;
+    return 1;
+}
+
+/* The same bits, or two NaNs. */
+static int alike(double a, double b) { return bits(a) == bits(b) || (isnan(a) && isnan(b)); }
+static int all_alike(const double *a, const double *b, size_t length) {
+    for (size_t i = 0; i < length; i++)
+        if (!alike(a[i], b[i])) return 0;
+    return 1;
+}
+
 /* The call refuses by that number and place, all else in its answer is 0, and nothing that it was lent changes. */
 static job now, before;
 static int refused(merotunki_answer *(*call)(job *), uint64_t number, uint64_t place) {
     merotunki_answer wanted = {.number = number, .place = place};
-    for (size_t i = 0; i < LONG; i++) { /* U and V are never examined: no numbers at all */
+    for (size_t i = 0; i < LONG; i++) { /* U, V and the list are never examined: no numbers at all */
         now.u[i] = of_bits(UINT64_C(0x7FF8000000000000) + i);
         now.v[i] = of_bits(UINT64_C(0xFFF0000000000001) + i);
     }
+    for (size_t i = 0; i < MOST + 2; i++) now.values[i] = of_bits(UINT64_C(0x7FF4000000000000) + i);
     memset(&now.answer, 0xAA, sizeof now.answer);
     before = now;
     before.answer = wanted;
@@ -110,16 +135,20 @@ static void unfit(unsigned n) {
     case 6: now.limit = MEROTUNKI_MOST_LIMIT + 1; break;
     case 7: now.floor = 0.0; break;
     case 8: now.matrix[5] = -INFINITY, now.matrix[7] = NAN; break;
+    case 11: now.values_length -= 1; break;
     }
 }
 
-/* A 4 x 3 job, changed so, is refused so by both calls; the plain one has no 4 and 5. */
-#define REFUSED(number, place, change)                                        \
-    do {                                                                      \
-        prepare(&now, 4, 3);                                                  \
-        change;                                                               \
-        CHECK(refused(full, number, place));                                  \
-        if (number != 4 && number != 5) CHECK(refused(plain, number, place)); \
+/* A 4 x 3 job, changed so, is refused so by each call that has the number. */
+static int in_full(unsigned number) { return number != 11; }
+static int in_plain(unsigned number) { return number != 11 && number != 4 && number != 5; }
+#define REFUSED(number, place, change)                              \
+    do {                                                            \
+        prepare(&now, 4, 3);                                        \
+        change;                                                     \
+        CHECK(refused(ordered, number, place));                     \
+        if (in_full(number)) CHECK(refused(full, number, place));   \
+        if (in_plain(number)) CHECK(refused(plain, number, place)); \
     } while (0)
 
 static void refusals(void) {
@@ -139,6 +168,11 @@ static void refusals(void) {
     REFUSED(4, 0, now.u_length = 9; now.v_length = 16);
     REFUSED(5, 0, now.v_length = 8);
     REFUSED(5, 0, now.v_length = 10);
+    REFUSED(11, 0, now.values_length = 2);
+    REFUSED(11, 0, now.values_length = 4);
+    REFUSED(11, 0, now.values_length = 0);
+    REFUSED(11, 0, now.values_length = MOST + 2);
+    REFUSED(11, 0, prepare(&now, 3, 4); now.values_length = 4);
     REFUSED(6, 0, now.limit = 100001);
     REFUSED(6, 0, now.limit = SIZE_MAX);
     REFUSED(6, 0, now.credit = 1001);
@@ -158,21 +192,27 @@ static void refusals(void) {
     REFUSED(8, 11, now.matrix[11] = INFINITY);
     REFUSED(8, 5, now.matrix[5] = -INFINITY; now.matrix[7] = NAN);
     /* the order: whatever else is unfit, the first number is given */
-    for (unsigned first = 1; first <= 8; first++) {
-        for (unsigned other = first + 1; other <= 8; other++) {
-            REFUSED(first, 0, unfit(first); unfit(other));
+    static const unsigned order[] = {1, 2, 3, 4, 5, 11, 6, 7, 8};
+    for (size_t first = 0; first < sizeof order / sizeof *order; first++) {
+        for (size_t other = first + 1; other < sizeof order / sizeof *order; other++) {
+            REFUSED(order[first], 0, unfit(order[first]); unfit(order[other]));
         }
     }
     /* a pointer with length 0 is not followed */
     merotunki_answer answer;
     CHECK(merotunki_svd(&answer, NULL, 0, 4, 3, 100, 50, 0, 0, 1)->number == 3);
     CHECK(merotunki_full_svd(&answer, NULL, 0, NULL, 0, NULL, 0, 4, 3, 100, 50, 0, 0, 1)->number == 3);
+    CHECK(merotunki_ordered_svd(&answer, NULL, 0, NULL, 0, NULL, 0, NULL, 0, 4, 3, 100, 50, 0, 0, 1)->number == 3);
+    double one[3] = {1, 1, 1};
+    CHECK(merotunki_ordered_svd(&answer, one, 1, one + 1, 1, one + 2, 1, NULL, 0, 1, 1, 0, 0, 0, 0, 1)->number == 11);
     CHECK(merotunki_identity(NULL, 0, 2) == 4);
     /* and what is not refused */
     static const size_t sizes[][2] = {{1, 1}, {48, 48}, {48, 1}, {1, 48}};
     for (size_t i = 0; i < 4; i++) {
         prepare(&now, sizes[i][0], sizes[i][1]);
         CHECK(full(&now)->number == 0);
+        prepare(&now, sizes[i][0], sizes[i][1]);
+        CHECK(ordered(&now)->number == 0);
     }
     prepare(&now, 3, 4);
     now.limit = 100000, now.credit = 1000, now.tolerance = -0.0, now.absolute = 1e300, now.floor = 5e-324;
@@ -219,6 +259,113 @@ static void known(void) {
     CHECK(full(&a) && a.u[0] == -7 && a.u[1] == 5 && a.u[2] == -3 && a.u[3] == 2);
 }
 
+/* Whether position i comes before j: its magnitude is larger, or they are equal and i is the lower. */
+static int before_in_order(double at_i, size_t i, double at_j, size_t j) {
+    return fabs(at_i) > fabs(at_j) || (fabs(at_i) == fabs(at_j) && i < j);
+}
+
+/* Whether `out` is what the ordered call has to leave where the run alone leaves `run`, entry by entry: what stood at
+ * position i stands at k, the number of positions that come before i. */
+static int put_in_order(const job *run, const job *out) {
+    const size_t r = run->rows, n = run->columns, c = r < n ? r : n;
+    static job wanted;
+    wanted = *run;
+    for (size_t i = 0; i < c; i++) {
+        const double value = run->matrix[i * n + i];
+        size_t k = 0;
+        for (size_t j = 0; j < c; j++) k += before_in_order(run->matrix[j * n + j], j, value, i);
+        wanted.values[k] = fabs(value);
+        for (size_t row = 0; row < r; row++) {
+            const double was = run->u[row * r + i];
+            wanted.u[row * r + k] = signbit(value) ? -was : was;
+        }
+        for (size_t row = 0; row < n; row++) wanted.v[row * n + k] = run->v[row * n + i];
+    }
+    return memcmp(&out->answer, &run->answer, sizeof out->answer) == 0 && out->answer.number == 0 &&
+           all_alike(out->matrix, wanted.matrix, LONG) && all_alike(out->u, wanted.u, LONG) &&
+           all_alike(out->v, wanted.v, LONG) && same(out->values, wanted.values, MOST + 2);
+}
+
+/* Whether the ordered call on this job is refused by that number after its run: all is as the accumulating call leaves
+ * it, word and counts too, and the list is as it was. Then `after` is what was left, but for the number, which is 0. */
+static job after;
+static int refused_after_run(const job *start, uint64_t number) {
+    static job run;
+    run = after = *start;
+    full(&run);
+    return run.answer.number == 0 && ordered(&after) == &after.answer && after.answer.number == number &&
+           (after.answer.number = 0, memcmp(&after.answer, &run.answer, sizeof run.answer) == 0) &&
+           all_alike(after.matrix, run.matrix, LONG) && all_alike(after.u, run.u, LONG) &&
+           all_alike(after.v, run.v, LONG) && same(after.values, start->values, MOST + 2);
+}
+
+static void in_order(void) {
+    static job a;
+    /* the diagonal is -1, 2: the values come in the other order, and the column of U that goes with -1 is negated */
+    prepare(&a, 2, 2);
+    set(&a, (double[]){1, 0, 0, 2});
+    CHECK(ordered(&a) == &a.answer && answered(&a, MEROTUNKI_SETTLED, 1, 0, 1, 1));
+    CHECK(equal(a.matrix, (double[]){-1, 0, 0, 2}, 4) && same(a.values, (double[]){2, 1}, 2));
+    CHECK(equal(a.u, (double[]){0, 1, 1, 0}, 4) && equal(a.v, (double[]){0, 1, 1, 0}, 4));
+    /* equal magnitudes keep their order: -1, 1 */
+    prepare(&a, 2, 2);
+    set(&a, (double[]){1, 0, 0, 1});
+    CHECK(ordered(&a)->number == 0 && equal(a.matrix, (double[]){-1, 0, 0, 1}, 4));
+    CHECK(same(a.values, (double[]){1, 1}, 2));
+    CHECK(equal(a.u, (double[]){1, 0, 0, 1}, 4) && equal(a.v, (double[]){1, 0, 0, 1}, 4));
+    /* -0 has its sign bit set, too */
+    prepare(&a, 1, 1);
+    set(&a, (double[]){-0.0});
+    CHECK(ordered(&a)->number == 0 && same(a.matrix, (double[]){-0.0}, 1) && same(a.values, (double[]){0}, 1));
+    CHECK(a.u[0] == -1 && a.v[0] == 1);
+    prepare(&a, 2, 2);
+    set(&a, (double[]){-0.0, 0, 0, 3});
+    CHECK(ordered(&a)->number == 0 && same(a.matrix, (double[]){-0.0}, 1) && same(a.values, (double[]){3, 0}, 2));
+    CHECK(equal(a.u, (double[]){0, -1, 1, 0}, 4) && equal(a.v, (double[]){0, 1, 1, 0}, 4));
+    /* more rows than columns: U's third column stays. More columns than rows: V's. Both diagonals are -1, -2. */
+    prepare(&a, 3, 2);
+    set(&a, (double[]){1, 0, 0, 2, 0, 0});
+    CHECK(ordered(&a)->number == 0 && equal(a.matrix, (double[]){-1, 0, 0, -2, 0, 0}, 6));
+    CHECK(same(a.values, (double[]){2, 1}, 2));
+    CHECK(equal(a.u, (double[]){0, 1, 0, 1, 0, 0, 0, 0, 1}, 9) && equal(a.v, (double[]){0, 1, 1, 0}, 4));
+    prepare(&a, 2, 3);
+    set(&a, (double[]){1, 0, 0, 0, 2, 0});
+    CHECK(ordered(&a)->number == 0 && equal(a.matrix, (double[]){-1, 0, 0, 0, -2, 0}, 6));
+    CHECK(same(a.values, (double[]){2, 1}, 2));
+    CHECK(equal(a.u, (double[]){0, -1, -1, 0}, 4) && equal(a.v, (double[]){0, -1, 0, -1, 0, 0, 0, 0, 1}, 9));
+    /* 12: the run stopped */
+    prepare(&a, 2, 2);
+    set(&a, (double[]){0, 0, 0, 0});
+    a.limit = 3;
+    CHECK(refused_after_run(&a, 12) && answered(&after, MEROTUNKI_STOPPED, 3, 3, 0, 2));
+    CHECK(same(after.u, (double[]){-0.0, 1, -1, -0.0}, 4) && same(after.v, (double[]){-0.0, 1, -1, -0.0}, 4));
+    prepare(&a, 2, 2);
+    set(&a, (double[]){1, 0, 0, 2});
+    a.limit = 0;
+    CHECK(refused_after_run(&a, 12) && answered(&after, MEROTUNKI_STOPPED, 0, 0, 0, 2));
+    CHECK(equal(after.matrix, (double[]){-1, 0, 0, 2}, 4) && equal(after.u, (double[]){-1, 0, 0, 1}, 4));
+    /* 13: it settled, and a value is not finite. The root of 2 times the largest double is too large for one. */
+    static const size_t shapes[][2] = {{1, 2}, {2, 1}};
+    for (size_t i = 0; i < 2; i++) {
+        prepare(&a, shapes[i][0], shapes[i][1]);
+        set(&a, (double[]){DBL_MAX, DBL_MAX});
+        CHECK(refused_after_run(&a, 13) && answered(&after, MEROTUNKI_SETTLED, 0, 0, 0, 1));
+        CHECK(equal(after.matrix, (double[]){-INFINITY, 0}, 2));
+    }
+    prepare(&a, 3, 2); /* the last value alone */
+    set(&a, (double[]){1, 0, 0, DBL_MAX, 0, DBL_MAX});
+    CHECK(refused_after_run(&a, 13) && answered(&after, MEROTUNKI_SETTLED, 1, 0, 1, 1));
+    CHECK(equal(after.matrix, (double[]){-1, 0, 0, -INFINITY, 0, 0}, 6));
+    prepare(&a, 2, 1); /* NaN: 0 times the infinity that is 1 over the smallest double */
+    set(&a, (double[]){0, of_bits(1)});
+    a.floor = of_bits(1);
+    CHECK(refused_after_run(&a, 13) && answered(&after, MEROTUNKI_SETTLED, 0, 0, 0, 1) && isnan(after.matrix[0]));
+    /* 12 comes before 13 */
+    prepare(&a, 2, 2);
+    set(&a, (double[]){1e160, 1e160, 0, 1e160});
+    CHECK(refused_after_run(&a, 12) && after.answer.word == MEROTUNKI_STOPPED && isnan(after.matrix[0]));
+}
+
 /* The distances between the table as it was and U x matrix x (V transposed), added up. */
 static double distance(const job *j, const double *was) {
     static double half[ENTRIES];
@@ -257,13 +404,14 @@ static uint64_t summed(uint64_t sum, const double *a, size_t length) {
     return sum;
 }
 
-static void both(void) {
-    static job a, b;
+static void drawn_tables(void) {
+    static job a, b, c;
     static double was[LONG];
+    size_t moved = 0;
     for (size_t i = 0; i < ANSWERS; i++) {
         seed = i;
         prepare(&a, answers[i].rows, answers[i].columns);
-        b = a;
+        c = b = a;
         memcpy(was, a.matrix, sizeof was);
         plain(&a);
         full(&b);
@@ -274,7 +422,20 @@ static void both(void) {
         CHECK(distance(&b, was) < 1e-9);
         uint64_t sum = summed(UINT64_C(0xCBF29CE484222325), b.matrix, b.matrix_length);
         CHECK(summed(summed(sum, b.u, b.u_length), b.v, b.v_length) == answers[i].sum);
+        ordered(&c);
+        CHECK(put_in_order(&b, &c));
+        for (size_t k = 0; k < c.values_length; k++) moved += fabs(b.matrix[k * b.columns + k]) != c.values[k];
     }
+    CHECK(moved > 0); /* some values did not stand where they belong */
+    /* not from the identity: U and V are any numbers, and none */
+    prepare(&b, 7, 5);
+    draw(b.u, 49);
+    draw(b.v, 25);
+    b.u[3] = NAN, b.u[20] = INFINITY, b.v[2] = NAN;
+    c = b;
+    full(&b);
+    ordered(&c);
+    CHECK(put_in_order(&b, &c));
 }
 
 static void identities(void) {
@@ -374,7 +535,8 @@ int main(void) {
     settings_and_roots();
     refusals();
     known();
-    both();
+    in_order();
+    drawn_tables();
     identities();
     rows();
     threads();

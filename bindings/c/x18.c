@@ -7,7 +7,7 @@
 
 #define ENTRIES (MEROTUNKI_MOST * MEROTUNKI_MOST)
 
-static double matrix[ENTRIES], u[ENTRIES], v[ENTRIES];
+static double matrix[ENTRIES], u[ENTRIES], v[ENTRIES], values[MEROTUNKI_MOST];
 static unsigned passed, failed;
 
 #if !defined __aarch64__
@@ -54,6 +54,9 @@ int main(void) {
         KEPT(number = merotunki_identity(v, n * n, n));
         KEPT(merotunki_full_svd(&a, matrix, r * n, u, r * r, v, n * n, r, n, 100, 50, 1e-10, 1e-12, 1e-21));
         KEPT(number = merotunki_row(u, r * r, v, n * n, r, n, MEROTUNKI_V, 0).length);
+        drawn(r * n);
+        KEPT(merotunki_ordered_svd(&a, matrix, r * n, u, r * r, v, n * n, values, r < n ? r : n, r, n, 100, 50, 1e-10,
+                                   1e-12, 1e-21));
         drawn(r * n);
         KEPT(merotunki_svd(&a, matrix, r * n, r, n, 100, 50, 1e-10, 1e-12, 1e-21));
     }

@@ -1,6 +1,6 @@
 /* merotunki_jni.c: the library's calls for src/merotunki/Native.java. ../CMakeLists.txt builds it.
  *
- * Arrays are copied in, and copied back where the call was accepted: the library never works on memory that a garbage
+ * Arrays are copied in, and copied back where the call has written: the library never works on memory that a garbage
  * collection moves, and no collection waits for a split. The lengths that the library is told are the arrays' own, so
  * every check is the library's. Native.java hands in no null.
  *
@@ -75,32 +75,55 @@ JNIEXPORT void JNICALL Java_merotunki_Native_svd(JNIEnv *env, jclass self, jlong
     free(t);
 }
 
-JNIEXPORT void JNICALL Java_merotunki_Native_fullSvd(JNIEnv *env, jclass self, jlongArray answer, jdoubleArray table,
-                                                     jdoubleArray u, jdoubleArray v, jint stations, jint passes,
-                                                     jint limit, jint credit, jdouble tolerance, jdouble absolute,
-                                                     jdouble floor) {
+/* The split with U and V, which begin as the identity; where `values` is not NULL, the split in order. */
+static void split_kept(JNIEnv *env, jlongArray answer, jdoubleArray table, jdoubleArray u, jdoubleArray v,
+                       jdoubleArray values, jint stations, jint passes, jint limit, jint credit, jdouble tolerance,
+                       jdouble absolute, jdouble floor) {
     const jsize length = (*env)->GetArrayLength(env, table);
     const size_t u_length = (size_t)(*env)->GetArrayLength(env, u), v_length = (size_t)(*env)->GetArrayLength(env, v);
-    double *const t = room(env, (size_t)length + u_length + v_length);
+    const size_t values_length = values == NULL ? 0 : (size_t)(*env)->GetArrayLength(env, values);
+    double *const t = room(env, (size_t)length + u_length + v_length + values_length);
     merotunki_answer a;
-    (void)self;
     if (t == NULL) return;
     (*env)->GetDoubleArrayRegion(env, table, 0, length, t);
     if (!(*env)->ExceptionCheck(env)) {
-        double *const tu = t + length, *const tv = tu + u_length;
+        double *const tu = t + length, *const tv = tu + u_length, *const listed = tv + v_length;
         /* what the identity refuses, the split refuses too */
         merotunki_identity(tu, u_length, (size_t)stations);
         merotunki_identity(tv, v_length, (size_t)passes);
-        merotunki_full_svd(&a, t, (size_t)length, tu, u_length, tv, v_length, (size_t)stations, (size_t)passes,
-                           (size_t)limit, (size_t)credit, tolerance, absolute, floor);
-        if (a.number == 0) {
+        if (values == NULL)
+            merotunki_full_svd(&a, t, (size_t)length, tu, u_length, tv, v_length, (size_t)stations, (size_t)passes,
+                               (size_t)limit, (size_t)credit, tolerance, absolute, floor);
+        else
+            merotunki_ordered_svd(&a, t, (size_t)length, tu, u_length, tv, v_length, listed, values_length,
+                                  (size_t)stations, (size_t)passes, (size_t)limit, (size_t)credit, tolerance, absolute,
+                                  floor);
+        if (a.word != MEROTUNKI_NONE) { /* there was a run */
             hand_back(env, table, t);
             hand_back(env, u, tu);
             hand_back(env, v, tv);
         }
+        if (a.number == 0 && values != NULL) hand_back(env, values, listed);
         tell(env, answer, &a);
     }
     free(t);
+}
+
+JNIEXPORT void JNICALL Java_merotunki_Native_fullSvd(JNIEnv *env, jclass self, jlongArray answer, jdoubleArray table,
+                                                     jdoubleArray u, jdoubleArray v, jint stations, jint passes,
+                                                     jint limit, jint credit, jdouble tolerance, jdouble absolute,
+                                                     jdouble floor) {
+    (void)self;
+    split_kept(env, answer, table, u, v, NULL, stations, passes, limit, credit, tolerance, absolute, floor);
+}
+
+JNIEXPORT void JNICALL Java_merotunki_Native_orderedSvd(JNIEnv *env, jclass self, jlongArray answer,
+                                                        jdoubleArray table, jdoubleArray u, jdoubleArray v,
+                                                        jdoubleArray values, jint stations, jint passes, jint limit,
+                                                        jint credit, jdouble tolerance, jdouble absolute,
+                                                        jdouble floor) {
+    (void)self;
+    split_kept(env, answer, table, u, v, values, stations, passes, limit, credit, tolerance, absolute, floor);
 }
 
 JNIEXPORT void JNICALL Java_merotunki_Native_defaults(JNIEnv *env, jclass self, jdoubleArray choice) {

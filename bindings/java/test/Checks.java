@@ -42,14 +42,19 @@ class Checks {
         check((r.word == Report.Word.SETTLED) == text.startsWith("settled"), "the word of " + text);
     }
 
-    static void refused(Callable<?> call, int number, int station, int pass, String what) throws Exception {
+    // the refusal, or null where it was not refused
+    static Refusal refused(Callable<?> call, int number, int station, int pass, String what) throws Exception {
         try {
             call.call();
             check(false, what + " is refused");
+            return null;
         } catch (Refusal r) {
-            check(r.number == number && r.station == station && r.pass == pass && r.getMessage().endsWith("."),
+            boolean ran = number == Refusal.STOPPED || number == Refusal.VALUE;
+            check(r.number == number && r.station == station && r.pass == pass && r.getMessage().endsWith(".")
+                            && (r.run != null) == ran,
                     what + " is refused by " + number + " at " + station + ", " + pass + ", not by " + r.number + " at "
                             + r.station + ", " + r.pass);
+            return r;
         }
     }
 

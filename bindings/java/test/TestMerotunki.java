@@ -9,6 +9,7 @@ import java.util.concurrent.Executors;
 import java.util.concurrent.Future;
 import merotunki.FullSplit;
 import merotunki.Merotunki;
+import merotunki.OrderedSplit;
 import merotunki.Refusal;
 import merotunki.Report;
 import merotunki.Settings;
@@ -17,11 +18,13 @@ import merotunki.Split;
 class TestMerotunki extends Checks {
     static final Settings PLAIN = Settings.DEFAULT;
 
-    static void refusedBoth(double[] readings, int stations, int passes, int number, int station, int pass, String what)
-            throws Exception {
+    static void refusedByEach(double[] readings, int stations, int passes, int number, int station, int pass,
+            String what) throws Exception {
         double[] were = readings.clone();
         refused(() -> Merotunki.split(readings, stations, passes, PLAIN), number, station, pass, what);
         refused(() -> Merotunki.splitFull(readings, stations, passes, PLAIN), number, station, pass, what + ", full");
+        refused(() -> Merotunki.splitInOrder(readings, stations, passes, PLAIN), number, station, pass,
+                what + ", in order");
         same(readings, were, what + " changes nothing");
     }
 
@@ -105,27 +108,97 @@ class TestMerotunki extends Checks {
         }
     }
 
+    // What stood at position i of the diagonal goes to k, the number of positions that come before i: those of a larger
+    // magnitude, and of an equal one the lower. U's column is negated where the sign bit was set.
+    static void putInOrder(double[] readings, int stations, int passes, String what) throws Exception {
+        FullSplit run = Merotunki.splitFull(readings, stations, passes, PLAIN);
+        OrderedSplit split = Merotunki.splitInOrder(readings, stations, passes, PLAIN);
+        double[] diagonal = run.values();
+        double[] values = new double[diagonal.length];
+        double[] u = run.u();
+        double[] v = run.v();
+        for (int i = 0; i < diagonal.length; i++) {
+            int k = 0;
+            for (int j = 0; j < diagonal.length; j++) {
+                double here = Math.abs(diagonal[i]);
+                double there = Math.abs(diagonal[j]);
+                k += there > here || (there == here && j < i) ? 1 : 0;
+            }
+            boolean negative = Double.doubleToRawLongBits(diagonal[i]) < 0;
+            values[k] = Math.abs(diagonal[i]);
+            for (int row = 0; row < stations; row++) {
+                u[row * stations + k] = negative ? -run.u()[row * stations + i] : run.u()[row * stations + i];
+            }
+            for (int row = 0; row < passes; row++) {
+                v[row * passes + k] = run.v()[row * passes + i];
+            }
+        }
+        same(split.values(), values, "the values in order, " + what);
+        same(split.u(), u, "U in order, " + what);
+        same(split.v(), v, "V in order, " + what);
+        same(split.matrix(), run.matrix(), "the matrix is the run's, " + what);
+        check(split.report.toString().equals(run.report.toString()), "the report is the run's, " + what);
+    }
+
+    static void ranAndRefused(double[] readings, int stations, int passes, Settings settings, int number, String text)
+            throws Exception {
+        String what = stations + " x " + passes + " in order";
+        double[] were = readings.clone();
+        Refusal refusal =
+                refused(() -> Merotunki.splitInOrder(readings, stations, passes, settings), number, 0, 0, what);
+        same(readings, were, "the readings stay, " + what);
+        if (refusal == null || refusal.run == null) {
+            return; // that has failed already
+        }
+        FullSplit wanted = Merotunki.splitFull(readings, stations, passes, settings);
+        reported(refusal.run.report, text, wanted.report.sweeps, wanted.report.drops, wanted.report.range);
+        same(refusal.run.matrix(), wanted.matrix(), "the run's matrix, " + what);
+        same(refusal.run.u(), wanted.u(), "the run's U, " + what);
+        same(refusal.run.v(), wanted.v(), "the run's V, " + what);
+    }
+
+    static void inOrder() throws Exception {
+        OrderedSplit split = Merotunki.splitInOrder(new double[] {1.0, 0.0, 0.0, 2.0}, 2, 2, PLAIN);
+        same(split.values(), new double[] {2.0, 1.0}, "the diagonal -1, 2 in order");
+        near(split.matrix(), new double[] {-1.0, 0.0, 0.0, 2.0}, "the matrix of -1, 2");
+        near(split.u(), new double[] {0.0, 1.0, 1.0, 0.0}, "U of -1, 2 in order");
+        near(split.v(), new double[] {0.0, 1.0, 1.0, 0.0}, "V of -1, 2 in order");
+        split.values()[0] = 7.0;
+        check(split.values()[0] == 2.0, "a split in order cannot be changed");
+        for (int i = 0; i < ANSWERS.length; i++) {
+            int stations = (int) ANSWERS[i][0];
+            int passes = (int) ANSWERS[i][1];
+            putInOrder(drawn(i, stations * passes), stations, passes, stations + " x " + passes);
+        }
+        putInOrder(new double[] {-0.0, 0.0, 0.0, 3.0}, 2, 2, "-0 and 3");
+        putInOrder(new double[] {1.0, 0.0, 0.0, 1.0}, 2, 2, "two equal ones");
+        double most = Double.MAX_VALUE;
+        ranAndRefused(new double[4], 2, 2, PLAIN.withLimit(3), Refusal.STOPPED, "stopped, passes 3, range left 2");
+        ranAndRefused(new double[] {most, most}, 1, 2, PLAIN, Refusal.VALUE, "settled, passes 0");
+        ranAndRefused(new double[] {most, most}, 2, 1, PLAIN, Refusal.VALUE, "settled, passes 0");
+    }
+
     static void refusals() throws Exception {
         double[] twelve = drawn(1, 12);
-        refusedBoth(new double[0], 0, 3, 1, 0, 0, "no stations");
-        refusedBoth(twelve, 4, 0, 1, 0, 0, "no passes");
-        refusedBoth(twelve, 0, 49, 1, 0, 0, "no stations and 49 passes");
-        refusedBoth(drawn(2, 147), 49, 3, 2, 0, 0, "49 stations");
-        refusedBoth(drawn(2, 147), 3, 49, 2, 0, 0, "49 passes");
-        refusedBoth(twelve, -4, 3, 2, 0, 0, "-4 stations");
-        refusedBoth(twelve, 4, -3, 2, 0, 0, "-3 passes");
-        refusedBoth(twelve, -4, -3, 2, 0, 0, "-4 stations and -3 passes");
-        refusedBoth(twelve, Integer.MIN_VALUE, Integer.MAX_VALUE, 2, 0, 0, "the smallest and the largest int");
-        refusedBoth(twelve, 46341, 46341, 2, 0, 0, "sizes whose square is no int");
-        refusedBoth(drawn(3, 11), 4, 3, 3, 0, 0, "11 readings for 4 x 3");
-        refusedBoth(drawn(3, 13), 4, 3, 3, 0, 0, "13 readings for 4 x 3");
-        refusedBoth(new double[0], 4, 3, 3, 0, 0, "no readings for 4 x 3");
+        refusedByEach(new double[0], 0, 3, 1, 0, 0, "no stations");
+        refusedByEach(twelve, 4, 0, 1, 0, 0, "no passes");
+        refusedByEach(twelve, 0, 49, 1, 0, 0, "no stations and 49 passes");
+        refusedByEach(drawn(2, 147), 49, 3, 2, 0, 0, "49 stations");
+        refusedByEach(drawn(2, 147), 3, 49, 2, 0, 0, "49 passes");
+        refusedByEach(twelve, -4, 3, 2, 0, 0, "-4 stations");
+        refusedByEach(twelve, 4, -3, 2, 0, 0, "-3 passes");
+        refusedByEach(twelve, -4, -3, 2, 0, 0, "-4 stations and -3 passes");
+        refusedByEach(twelve, Integer.MIN_VALUE, Integer.MAX_VALUE, 2, 0, 0, "the smallest and the largest int");
+        refusedByEach(twelve, 46341, 46341, 2, 0, 0, "sizes whose square is no int");
+        refusedByEach(drawn(3, 11), 4, 3, 3, 0, 0, "11 readings for 4 x 3");
+        refusedByEach(drawn(3, 13), 4, 3, 3, 0, 0, "13 readings for 4 x 3");
+        refusedByEach(new double[0], 4, 3, 3, 0, 0, "no readings for 4 x 3");
         for (double bad : new double[] {Double.NaN, Double.POSITIVE_INFINITY, Double.NEGATIVE_INFINITY}) {
             double[] odd = twelve.clone();
             odd[5] = bad;
             odd[11] = Double.NaN;
-            refusedBoth(odd, 4, 3, 8, 1, 2, bad + " at station 1, pass 2");
-            refusedBoth(odd, 2, 6, 8, 0, 5, bad + " at station 0, pass 5");
+            refusedByEach(odd, 4, 3, 8, 1, 2, bad + " at station 1, pass 2");
+            refusedByEach(odd, 2, 6, 8, 0, 5, bad + " at station 0, pass 5");
         }
         try {
             Merotunki.split(new double[] {1.5, 2.0, Double.NaN, 1.0}, 2, 2, PLAIN);
@@ -135,8 +208,10 @@ class TestMerotunki extends Checks {
         }
         thrown(NullPointerException.class, "readings", () -> Merotunki.split(null, 4, 3, PLAIN), "no array");
         thrown(NullPointerException.class, "readings", () -> Merotunki.splitFull(null, 4, 3, PLAIN), "no array, full");
+        thrown(NullPointerException.class, "readings", () -> Merotunki.splitInOrder(null, 4, 3, PLAIN), "none, order");
         thrown(NullPointerException.class, "settings", () -> Merotunki.split(twelve, 4, 3, null), "no settings");
         thrown(NullPointerException.class, "settings", () -> Merotunki.splitFull(twelve, 4, 3, null), "none, full");
+        thrown(NullPointerException.class, "settings", () -> Merotunki.splitInOrder(twelve, 4, 3, null), "none, order");
     }
 
     static void settings() throws Exception {
@@ -205,10 +280,13 @@ class TestMerotunki extends Checks {
             if (i == 0) {
                 before = held();
             }
-            good &= Merotunki.splitFull(readings, 4, 3, PLAIN).report.word == Report.Word.SETTLED;
+            FullSplit split = i % 2 == 0
+                    ? Merotunki.splitFull(readings, 4, 3, PLAIN)
+                    : Merotunki.splitInOrder(readings, 4, 3, PLAIN);
+            good &= split.report.word == Report.Word.SETTLED;
             if (i % 10 == 0) {
                 try {
-                    Merotunki.splitFull(odd, 4, 3, PLAIN);
+                    Merotunki.splitInOrder(odd, 4, 3, PLAIN);
                     good = false;
                 } catch (Refusal refusal) {
                     good &= refusal.number == 8;
@@ -223,6 +301,7 @@ class TestMerotunki extends Checks {
     public static void main(String[] words) throws Exception {
         knownTables();
         toTheBit();
+        inOrder();
         refusals();
         settings();
         roots();

@@ -1,6 +1,6 @@
 //! Splits the survey of samples/leaking-stopping.csv and prints what an app would show of it. No sign
 //! has to be chosen: (-u, -v) for (u, v), or (-u, -s) for (u, s), gives the same profile and drift.
-use merotunki::{Refusal, Report, Settings, Table};
+use merotunki::{Refusal, Settings, Table, Unordered};
 
 const PASSES: usize = 6;
 const READINGS: [f64; 12 * PASSES] = [
@@ -23,21 +23,28 @@ fn miss(s: f64, u: &[f64], v: &[f64]) -> f64 {
     stations.chain(passes).map(|off| off * off).sum::<f64>().sqrt()
 }
 
-fn by_size(a: &[f64]) -> Vec<usize> {
-    let mut order: Vec<usize> = (0..a.len()).collect();
-    order.sort_by(|&i, &j| a[j].abs().total_cmp(&a[i].abs()));
-    order
+/// Where the greatest magnitude stands.
+fn largest(a: &[f64]) -> usize {
+    (1..a.len()).fold(0, |at, i| if a[i].abs() > a[at].abs() { i } else { at })
 }
 
 fn main() -> Result<(), Refusal> {
     let mut entries = READINGS;
     let mut table = Table::new(&mut entries, 12, PASSES)?;
-    let (report, factors) = table.split_full(&Settings::default())?;
+    let mut values = [0.0; PASSES];
+    // in order the strongest is the first; after a stop the run's values stand on the diagonal
+    let (report, factors, k, stopped) =
+        match table.split_in_order(&mut values, &Settings::default()) {
+            Ok((report, factors)) => (report, factors, 0, false),
+            Err(Unordered { refusal: Refusal::Stopped, run: Some((report, factors)) }) => {
+                values.iter_mut().zip(table.values()).for_each(|(to, value)| *to = value);
+                (report, factors, largest(&values), true)
+            }
+            Err(unordered) => return Err(unordered.refusal),
+        };
     println!("{report}");
-    let values: Vec<f64> = table.values().collect();
     let share = |k: usize| 100.0 * values[k] * values[k] / dot(&READINGS, &READINGS);
-    let order = by_size(&values);
-    let (k, s) = (order[0], values[order[0]]);
+    let s = values[k];
     let u: Vec<f64> = factors.over_stations(k).into_iter().flatten().collect();
     let v: Vec<f64> = factors.over_passes(k).into_iter().flatten().collect();
     // the formulas: of station i, of pass j, of the reading at i * PASSES + j
@@ -49,19 +56,18 @@ fn main() -> Result<(), Refusal> {
     let (left, all) = (dot(&rest, &rest).sqrt(), dot(table.entries(), table.entries()));
     let usable = [all, share(k), left, mean.recip()].iter().all(|x| x.is_finite());
     let confirmed = miss(s, &u, &v) <= 1e-10 * s.abs() && left < s.abs();
-    let stopped = matches!(report, Report::Stopped { .. });
     if !usable || (stopped && !confirmed) {
         println!("no split to show");
         return Ok(());
     }
-    for &k in order.iter().take(if stopped { 1 } else { order.len() }) {
+    for k in if stopped { k..k + 1 } else { 0..PASSES } {
         println!("strength {:7.4}, share {:7.4} %", values[k].abs(), share(k));
     }
     let word = if confirmed { "confirm" } else { "do not confirm" };
     println!("the readings {word} the strongest part");
     (0..u.len()).for_each(|i| println!("station {i:2}: profile {:.2} m/s", profile(i)));
     (0..PASSES).for_each(|j| println!("pass {j}: drift {:+.2} %", drift(j)));
-    let (at, rms) = (by_size(&rest)[0], left / (rest.len() as f64).sqrt());
+    let (at, rms) = (largest(&rest), left / (rest.len() as f64).sqrt());
     let (most, station, pass) = (rest[at], at / PASSES, at % PASSES);
     print!("left over: largest {most:+.4} m/s, station {station} in pass {pass}; ");
     println!("root mean square {rms:.4} m/s");

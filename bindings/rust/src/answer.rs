@@ -4,7 +4,8 @@
 // The struct, the names of its words and the words one after the other, from one list.
 macro_rules! answer {
     ($($(#[$meaning:meta])* $word:ident,)*) => {
-        /// What a call answers: `merotunki_answer`. In a refusal all but number and place is 0.
+        /// What a call answers: `merotunki_answer`. In a refusal all but number and place is 0; with 12 and 13, which
+        /// come after the run, all but number and place is the run's.
         #[repr(C)]
         #[derive(Clone, Copy, Debug, Default, PartialEq, Eq)]
         pub struct Answer {
@@ -30,11 +31,11 @@ macro_rules! answer {
 }
 
 answer! {
-    /// 0 accepted, 1 to 8 refused.
+    /// 0 accepted, 1 to 8 and 11 to 13 refused.
     number,
     /// For number 8 the index of the first bad reading, else 0.
     place,
-    /// [`Answer::SETTLED`] or [`Answer::STOPPED`]; 0 where refused.
+    /// [`Answer::SETTLED`] or [`Answer::STOPPED`]; 0 where nothing was run.
     word,
     /// Passes of the walk; each is a sweep or a drop.
     passes,

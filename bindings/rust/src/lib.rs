@@ -16,6 +16,8 @@
 //! # Ok::<(), merotunki::Refusal>(())
 //! ```
 //!
+//! [`Table::split_in_order`] puts the values in order of size, largest first.
+//!
 //! Every check of sizes, lengths, settings and readings is the proved library's own; this crate asks
 //! it and does no arithmetic. The library has no heap, no global state and no locks, so tables may be
 //! split on several threads at once. It takes the thread's floating point to be as Rust has it: round
@@ -32,7 +34,7 @@ mod table;
 
 pub use outcome::{Refusal, Report};
 pub use settings::Settings;
-pub use table::{Factors, Table};
+pub use table::{Factors, Table, Unordered};
 
 /// The most stations and the most passes that a table may have.
 pub const MOST: usize = 48;

@@ -3,7 +3,7 @@
 use crate::raw::Answer;
 use std::fmt;
 
-/// How an accepted split ended. The passes are those of the method's walk, not the survey's; each is a
+/// How a split's run ended. The passes are those of the method's walk, not the survey's; each is a
 /// sweep or a drop.
 #[derive(Clone, Copy, Debug, PartialEq, Eq)]
 #[allow(missing_docs)]
@@ -26,7 +26,8 @@ impl fmt::Display for Report {
     }
 }
 
-/// Why a call was refused, first reason first. Nothing has been written then.
+/// Why a call was refused, first reason first. Nothing has been written then, but for `Stopped` and
+/// `Value`, which [`Table::split_in_order`](crate::Table::split_in_order) alone gives, after its run.
 ///
 /// ```
 /// use merotunki::{Refusal, Settings, Table};
@@ -51,6 +52,9 @@ pub enum Refusal {
     Stations,
     /// 5: V is for another number of passes. A [`Table`](crate::Table) never gives it either.
     Passes,
+    /// 11: the list of values has not as many entries as there are values, the smaller of stations and
+    /// passes.
+    List,
     /// 6: a limit above 100,000 or a credit above 1,000.
     Count,
     /// 7: a tolerance, absolute bound or floor that is not allowed.
@@ -58,23 +62,40 @@ pub enum Refusal {
     /// 8: a reading that is infinite or NaN; the first such one, station by station, counted from 0.
     #[allow(missing_docs)]
     Reading { station: usize, pass: usize },
+    /// 12: the run stopped, so that its values are not final.
+    Stopped,
+    /// 13: the run settled, and a value is infinite or NaN.
+    Value,
 }
 
-// Numbers 1 to 7 with their texts.
-const PLAIN: [(Refusal, &str); 7] = [
-    (Refusal::Empty, "The table has no stations or no passes."),
-    (Refusal::Large, "The table has more than 48 stations or more than 48 passes."),
-    (Refusal::Length, "The readings do not fill the table's stations and passes."),
-    (Refusal::Stations, "The factors are for a table with another number of stations."),
-    (Refusal::Passes, "The factors are for a table with another number of passes."),
-    (Refusal::Count, "The limit is above 100000 or the credit is above 1000."),
-    (Refusal::Bound, "A bound is below zero or no number, or the floor is not above zero."),
+// Every number but that of `Reading`, with its text.
+const PLAIN: [(u64, Refusal, &str); 10] = [
+    (1, Refusal::Empty, "The table has no stations or no passes."),
+    (2, Refusal::Large, "The table has more than 48 stations or more than 48 passes."),
+    (3, Refusal::Length, "The readings do not fill the table's stations and passes."),
+    (4, Refusal::Stations, "The factors are for a table with another number of stations."),
+    (5, Refusal::Passes, "The factors are for a table with another number of passes."),
+    (11, Refusal::List, "The list of values is for a table with another number of values."),
+    (6, Refusal::Count, "The limit is above 100000 or the credit is above 1000."),
+    (7, Refusal::Bound, "A bound is below zero or no number, or the floor is not above zero."),
+    (12, Refusal::Stopped, "The run stopped: its values are not final."),
+    (13, Refusal::Value, "A value of the split is not a usable number."),
 ];
 
 impl Refusal {
-    /// The library's number for it, 1 to 8.
+    // Its row of `PLAIN`; none where it is a `Reading`.
+    fn plain(&self) -> Option<&'static (u64, Refusal, &'static str)> {
+        PLAIN.iter().find(|(_, refusal, _)| refusal == self)
+    }
+
+    /// The library's number for it: 1 to 8, 11 to 13.
     pub fn number(&self) -> u64 {
-        1 + PLAIN.iter().take_while(|(refusal, _)| refusal != self).count() as u64
+        self.plain().map_or(8, |(number, ..)| *number)
+    }
+
+    // Whether it came after the run.
+    pub(crate) fn after_run(&self) -> bool {
+        matches!(self, Refusal::Stopped | Refusal::Value)
     }
 }
 
@@ -84,24 +105,29 @@ impl fmt::Display for Refusal {
             Refusal::Reading { station, pass } => {
                 write!(f, "The reading of station {station} in pass {pass} is not a usable number.")
             }
-            other => f.write_str(PLAIN[other.number() as usize - 1].1),
+            other => other.plain().map_or(Ok(()), |(.., text)| f.write_str(text)),
         }
     }
 }
 
 impl std::error::Error for Refusal {}
 
-// What the answer says of a table with that many columns. The library has no number above 8, and gives
-// 8 only where there are columns.
+// The report of an answer to a run.
+pub(crate) fn report(answer: Answer) -> Report {
+    let Answer { word, passes, sweeps, drops, range, .. } = answer;
+    match word {
+        Answer::SETTLED => Report::Settled { passes, sweeps, drops },
+        _ => Report::Stopped { passes, sweeps, drops, range },
+    }
+}
+
+// What the answer says of a table with that many columns. The library has no other numbers than 0, 8
+// and those of `PLAIN`, and gives 8 only where there are columns.
 pub(crate) fn outcome(answer: Answer, columns: usize) -> Result<Report, Refusal> {
-    let Answer { number, place, word, passes, sweeps, drops, range, .. } = answer;
-    match (number, word) {
-        (0, Answer::SETTLED) => Ok(Report::Settled { passes, sweeps, drops }),
-        (0, _) => Ok(Report::Stopped { passes, sweeps, drops, range }),
-        (1..=7, _) => Err(PLAIN[number as usize - 1].0),
-        _ => {
-            let (station, pass) = (place as usize / columns, place as usize % columns);
-            Err(Refusal::Reading { station, pass })
-        }
+    let (number, place) = (answer.number, answer.place as usize);
+    match PLAIN.iter().find(|(listed, ..)| *listed == number) {
+        Some((_, refusal, _)) => Err(*refusal),
+        None if number == 0 => Ok(report(answer)),
+        None => Err(Refusal::Reading { station: place / columns, pass: place % columns }),
     }
 }

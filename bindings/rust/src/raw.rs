@@ -66,6 +66,25 @@ unsafe extern "C" {
         floor: f64,
     ) -> *mut Answer;
 
+    pub fn merotunki_ordered_svd(
+        answer: *mut Answer,
+        matrix: *mut f64,
+        matrix_length: usize,
+        u: *mut f64,
+        u_length: usize,
+        v: *mut f64,
+        v_length: usize,
+        values: *mut f64,
+        values_length: usize,
+        rows: usize,
+        columns: usize,
+        limit: usize,
+        credit: usize,
+        tolerance: f64,
+        absolute: f64,
+        floor: f64,
+    ) -> *mut Answer;
+
     pub fn merotunki_identity(a: *mut f64, a_length: usize, n: usize) -> u64;
 
     pub fn merotunki_row(
@@ -107,27 +126,33 @@ fn expect_layout() {
     );
 }
 
+// The answer of a call that is lent these slices and told sizes and settings.
+macro_rules! answered {
+    ($call:ident, [$($slice:ident),*], $rows:ident, $columns:ident, $c:ident) => {{
+        expect_layout();
+        let mut a = Answer::default();
+        let (limit, credit) = ($c.limit as usize, $c.credit as usize);
+        // SAFETY: as above.
+        unsafe {
+            $call(
+                &mut a,
+                $($slice.as_mut_ptr(), $slice.len(),)*
+                $rows,
+                $columns,
+                limit,
+                credit,
+                $c.tolerance,
+                $c.absolute,
+                $c.floor,
+            )
+        };
+        a
+    }};
+}
+
 /// `merotunki_svd` on a slice.
 pub fn svd(m: &mut [f64], rows: usize, columns: usize, c: Choice) -> Answer {
-    expect_layout();
-    let mut a = Answer::default();
-    let (limit, credit) = (c.limit as usize, c.credit as usize);
-    // SAFETY: as above.
-    unsafe {
-        merotunki_svd(
-            &mut a,
-            m.as_mut_ptr(),
-            m.len(),
-            rows,
-            columns,
-            limit,
-            credit,
-            c.tolerance,
-            c.absolute,
-            c.floor,
-        )
-    };
-    a
+    answered!(merotunki_svd, [m], rows, columns, c)
 }
 
 /// `merotunki_full_svd` on three slices.
@@ -138,31 +163,19 @@ pub fn full_svd(
     columns: usize,
     c: Choice,
 ) -> Answer {
-    expect_layout();
-    let mut a = Answer::default();
-    let (limit, credit) = (c.limit as usize, c.credit as usize);
-    let (m, m_length, u, u_length, v, v_length) =
-        (m.as_mut_ptr(), m.len(), u.as_mut_ptr(), u.len(), v.as_mut_ptr(), v.len());
-    // SAFETY: as above.
-    unsafe {
-        merotunki_full_svd(
-            &mut a,
-            m,
-            m_length,
-            u,
-            u_length,
-            v,
-            v_length,
-            rows,
-            columns,
-            limit,
-            credit,
-            c.tolerance,
-            c.absolute,
-            c.floor,
-        )
-    };
-    a
+    answered!(merotunki_full_svd, [m, u, v], rows, columns, c)
+}
+
+/// `merotunki_ordered_svd` on four slices.
+pub fn ordered_svd(
+    m: &mut [f64],
+    (u, v): (&mut [f64], &mut [f64]),
+    values: &mut [f64],
+    rows: usize,
+    columns: usize,
+    c: Choice,
+) -> Answer {
+    answered!(merotunki_ordered_svd, [m, u, v, values], rows, columns, c)
 }
 
 pub(crate) fn identity(a: &mut [f64], n: usize) -> u64 {

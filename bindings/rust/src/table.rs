@@ -1,8 +1,9 @@
 //! A table of readings, and U and V.
 
-use crate::outcome::{Refusal, Report, outcome};
+use crate::outcome::{Refusal, Report, outcome, report};
 use crate::raw::{self, Choice};
 use crate::settings::Settings;
+use std::fmt;
 
 /// A table of readings with its sizes, checked when it is made: 1 to 48 stations, 1 to 48 passes, and
 /// as many readings as that. It borrows the readings, since the app already holds them: nothing is
@@ -63,10 +64,58 @@ impl<'a> Table<'a> {
     /// ```
     pub fn split_full(&mut self, settings: &Settings) -> Result<(Report, Factors), Refusal> {
         let (stations, passes) = (self.stations, self.passes);
-        let (mut u, mut v) = (identity(stations), identity(passes));
-        let lent = (&mut u[..], &mut v[..]);
-        let answer = raw::full_svd(self.entries, lent, stations, passes, settings.choice());
-        outcome(answer, passes).map(|report| (report, Factors { u, v, stations, passes }))
+        let mut factors = Factors::begun(stations, passes);
+        let answer =
+            raw::full_svd(self.entries, factors.lent(), stations, passes, settings.choice());
+        outcome(answer, passes).map(|report| (report, factors))
+    }
+
+    /// Splits the table where it stands, as [`Table::split_full`] does, and puts the values in order
+    /// of size. `values`, with as many entries as there are values (the smaller of stations and
+    /// passes), then holds their magnitudes, largest first, equal ones in the order of the diagonal.
+    /// Column k of U and column k of V go with `values[k]`; where the value was below zero or -0, its
+    /// column of U is negated. The table is left as [`Table::split_full`] leaves it, so
+    /// [`Table::values`] still has the diagonal, in no order and of either sign.
+    ///
+    /// Refuses `List` and `Reading`, and then nothing has been written. After the run it refuses
+    /// `Stopped` and `Value`: then `values` is as it was, the table is as the run leaves it, and
+    /// [`Unordered::run`] has the run's report, U and V.
+    ///
+    /// ```
+    /// use merotunki::{Refusal, Report, Settings, Table};
+    ///
+    /// let mut readings = [1.0, 0.0, 0.0, 2.0]; // 2 stations, 2 passes
+    /// let mut table = Table::new(&mut readings, 2, 2)?;
+    /// let mut values = [0.0; 2];
+    /// let (_, factors) = table.split_in_order(&mut values, &Settings::default())?;
+    /// assert_eq!(values, [2.0, 1.0]);
+    /// assert_eq!(factors.over_stations(0).unwrap().collect::<Vec<_>>(), [0.0, 1.0]);
+    /// assert_eq!(table.values().collect::<Vec<_>>(), [-1.0, 2.0]);
+    ///
+    /// let mut zeros = [0.0; 4];
+    /// let mut table = Table::new(&mut zeros, 2, 2)?;
+    /// let unordered = table.split_in_order(&mut values, &Settings::default()).unwrap_err();
+    /// assert_eq!(unordered.refusal, Refusal::Stopped);
+    /// assert!(matches!(unordered.run, Some((Report::Stopped { range: 2, .. }, _))));
+    /// # Ok::<(), Refusal>(())
+    /// ```
+    #[allow(clippy::result_large_err)] // what is handed out where it is accepted is as large
+    pub fn split_in_order(
+        &mut self,
+        values: &mut [f64],
+        settings: &Settings,
+    ) -> Result<(Report, Factors), Unordered> {
+        let (stations, passes, choice) = (self.stations, self.passes, settings.choice());
+        let mut factors = Factors::begun(stations, passes);
+        let answer =
+            raw::ordered_svd(self.entries, factors.lent(), values, stations, passes, choice);
+        match outcome(answer, passes) {
+            Ok(report) => Ok((report, factors)),
+            Err(refusal) => {
+                let run = refusal.after_run().then(|| (report(answer), factors));
+                Err(Unordered { refusal, run })
+            }
+        }
     }
 
     /// The values, as the method leaves them on the diagonal: in no order and of either sign.
@@ -87,9 +136,33 @@ fn identity(n: usize) -> Vec<f64> {
     a
 }
 
-/// U (stations x stations) and V (passes x passes) of one split, as [`Table::split_full`] hands them
-/// out: the readings were U x entries x (V transposed), but for rounding. They cannot be made otherwise
-/// nor changed.
+/// Why [`Table::split_in_order`] put no values in order.
+#[derive(Clone, Debug, PartialEq)]
+pub struct Unordered {
+    /// The refusal.
+    pub refusal: Refusal,
+    /// With `Stopped` and `Value`, which come after the run, what [`Table::split_full`] would have
+    /// handed out: the report, U and V. None with the others.
+    pub run: Option<(Report, Factors)>,
+}
+
+impl fmt::Display for Unordered {
+    fn fmt(&self, f: &mut fmt::Formatter<'_>) -> fmt::Result {
+        self.refusal.fmt(f)
+    }
+}
+
+impl std::error::Error for Unordered {}
+
+impl From<Unordered> for Refusal {
+    fn from(unordered: Unordered) -> Self {
+        unordered.refusal
+    }
+}
+
+/// U (stations x stations) and V (passes x passes) of one split. They cannot be made otherwise nor
+/// changed. As [`Table::split_full`] hands them out, the readings were U x entries x (V transposed),
+/// but for rounding; as [`Table::split_in_order`] does, their columns have moved with the values.
 ///
 /// A station's row of U and a pass's row of V are [`Factors::station`] and [`Factors::pass`]. What
 /// belongs to value k are the columns k: [`Factors::over_stations`] and [`Factors::over_passes`].
@@ -102,6 +175,15 @@ pub struct Factors {
 }
 
 impl Factors {
+    // As they are before a split: the library's identities.
+    fn begun(stations: usize, passes: usize) -> Self {
+        Factors { u: identity(stations), v: identity(passes), stations, passes }
+    }
+
+    fn lent(&mut self) -> (&mut [f64], &mut [f64]) {
+        (&mut self.u, &mut self.v)
+    }
+
     fn row(&self, side: usize, row: usize) -> Option<&[f64]> {
         let part = raw::row(&self.u, &self.v, self.stations, self.passes, side, row);
         let from = if side == 0 { &self.u } else { &self.v };

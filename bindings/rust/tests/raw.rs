@@ -1,5 +1,6 @@
 //! The library's own functions as raw.rs declares them: every number in its order with nothing written,
-//! the identity's refusals, every way that a row is not fit, factors of one's own, and the layout.
+//! those that come after the run, the identity's refusals, every way that a row is not fit, factors of
+//! one's own, and the layout.
 
 use merotunki::raw::*;
 
@@ -8,19 +9,24 @@ use merotunki::raw::*;
 struct Lent {
     rows: usize,
     columns: usize,
-    lengths: [usize; 3],
+    lengths: [usize; 4],
     choice: Choice,
-    entries: [Vec<f64>; 3],
+    entries: [Vec<f64>; 4],
 }
 
 fn fit() -> Lent {
     let mut choice = Choice::default();
     let given: *mut Choice = &mut choice;
     assert_eq!(unsafe { merotunki_defaults(given) }, given);
-    // U and V are never examined: no numbers at all
-    let entries = [(1..=20).map(f64::from).collect(), vec![f64::NAN; 20], vec![f64::INFINITY; 20]];
-    Lent { rows: 4, columns: 3, lengths: [12, 16, 9], choice, entries }
+    // U, V and the list of values are never examined: no numbers at all
+    let none = |x: f64| vec![x; 20];
+    let entries =
+        [(1..=20).map(f64::from).collect(), none(f64::NAN), none(f64::INFINITY), none(-f64::NAN)];
+    Lent { rows: 4, columns: 3, lengths: [12, 16, 9, 3], choice, entries }
 }
+
+// The numbers that come before a run, in their order.
+const NUMBERS: [u64; 9] = [1, 2, 3, 4, 5, 11, 6, 7, 8];
 
 // Unfit for that number and for no other.
 fn spoil(l: &mut Lent, number: u64) {
@@ -30,28 +36,47 @@ fn spoil(l: &mut Lent, number: u64) {
         3 => l.lengths[0] = 11,
         4 => l.lengths[1] = 17,
         5 => l.lengths[2] = 8,
+        11 => l.lengths[3] = 4,
         6 => l.choice.credit = 1001,
         7 => l.choice.absolute = f64::NAN,
         _ => (l.entries[0][5], l.entries[0][7]) = (f64::NEG_INFINITY, f64::NAN),
     }
 }
 
-fn call(l: &mut Lent, full: bool) -> Answer {
+#[derive(Clone, Copy)]
+enum Call {
+    Plain,
+    Full,
+    Ordered,
+}
+
+impl Call {
+    fn has(self, number: u64) -> bool {
+        match self {
+            Call::Plain => ![4, 5, 11].contains(&number),
+            Call::Full => number != 11,
+            Call::Ordered => true,
+        }
+    }
+}
+
+fn call(l: &mut Lent, which: Call) -> Answer {
     let mut answer = Answer::from([99; Answer::NAMES.len()]);
     let given: *mut Answer = &mut answer;
     let c = l.choice;
     let (limit, credit) = (c.limit as usize, c.credit as usize);
-    let [m, u, v] = &mut l.entries;
-    let (m, u, v) = (m.as_mut_ptr(), u.as_mut_ptr(), v.as_mut_ptr());
-    let [ml, ul, vl] = l.lengths;
-    let (t, a, f) = (c.tolerance, c.absolute, c.floor);
+    let [m, u, v, w] = l.entries.each_mut().map(|entries| entries.as_mut_ptr());
+    let [ml, ul, vl, wl] = l.lengths;
+    let (rows, columns, t, a, f) = (l.rows, l.columns, c.tolerance, c.absolute, c.floor);
     let back = unsafe {
-        if full {
-            merotunki_full_svd(
-                given, m, ml, u, ul, v, vl, l.rows, l.columns, limit, credit, t, a, f,
-            )
-        } else {
-            merotunki_svd(given, m, ml, l.rows, l.columns, limit, credit, t, a, f)
+        match which {
+            Call::Plain => merotunki_svd(given, m, ml, rows, columns, limit, credit, t, a, f),
+            Call::Full => merotunki_full_svd(
+                given, m, ml, u, ul, v, vl, rows, columns, limit, credit, t, a, f,
+            ),
+            Call::Ordered => merotunki_ordered_svd(
+                given, m, ml, u, ul, v, vl, w, wl, rows, columns, limit, credit, t, a, f,
+            ),
         }
     };
     assert_eq!(back, given);
@@ -64,16 +89,16 @@ fn patterns(l: &Lent) -> Vec<u64> {
 
 #[test]
 fn every_number_comes_first_and_writes_nothing() {
-    for full in [false, true] {
-        for first in (1..=8).filter(|n| full || !(4..=5).contains(n)) {
-            for other in first..=8 {
+    for which in [Call::Plain, Call::Full, Call::Ordered] {
+        for (at, first) in NUMBERS.into_iter().enumerate().filter(|(_, n)| which.has(*n)) {
+            for &other in &NUMBERS[at..] {
                 let mut l = fit();
                 spoil(&mut l, first);
                 spoil(&mut l, other);
                 let before = patterns(&l);
                 let place = if first == 8 { 5 } else { 0 };
                 assert_eq!(
-                    call(&mut l, full),
+                    call(&mut l, which),
                     Answer { number: first, place, ..Answer::default() }
                 );
                 assert_eq!(patterns(&l), before);
@@ -81,10 +106,39 @@ fn every_number_comes_first_and_writes_nothing() {
         }
         let mut l = fit();
         let before = patterns(&l);
-        let answer = call(&mut l, full);
+        let answer = call(&mut l, which);
         assert_eq!((answer.number, answer.word, answer.range), (0, 1, 1));
         assert_ne!(patterns(&l)[..12], before[..12]);
         assert_eq!(patterns(&l)[12..20], before[12..20]);
+        let listed = matches!(which, Call::Ordered);
+        assert_eq!(listed, patterns(&l)[60..63] != before[60..63]);
+        assert_eq!(patterns(&l)[63..], before[63..]);
+    }
+}
+
+// After the run: all is as the accumulating call leaves it, but the number. The list is as it was.
+#[test]
+fn two_numbers_come_after_the_run() {
+    let choice = Choice { limit: 3, ..fit().choice };
+    // number, rows, columns, readings, and the answer's words from the word on
+    let cases = [
+        (12, 2, 2, vec![0.0; 4], [2, 3, 3, 0, 2]),
+        (13, 1, 2, vec![f64::MAX; 2], [1, 0, 0, 0, 1]),
+        (13, 2, 1, vec![f64::MAX; 2], [1, 0, 0, 0, 1]),
+        (13, 3, 2, vec![1.0, 0.0, 0.0, f64::MAX, 0.0, f64::MAX], [1, 1, 0, 1, 1]),
+    ];
+    for (number, rows, columns, mut m, counts) in cases {
+        let square = |n: usize| (0..n * n).map(|i| f64::from(i / n == i % n)).collect();
+        let (mut u, mut v): (Vec<f64>, Vec<f64>) = (square(rows), square(columns));
+        let (mut by_m, mut by_u, mut by_v) = (m.clone(), u.clone(), v.clone());
+        let run = full_svd(&mut m, (&mut u, &mut v), rows, columns, choice);
+        let mut values = vec![7.0; rows.min(columns)];
+        let lent = (&mut by_u[..], &mut by_v[..]);
+        let answer = ordered_svd(&mut by_m, lent, &mut values, rows, columns, choice);
+        assert_eq!(run.words()[2..], counts);
+        assert_eq!(answer, Answer { number, ..run });
+        assert_eq!((by_m, by_u, by_v), (m, u, v));
+        assert_eq!(values, vec![7.0; rows.min(columns)]);
     }
 }
 

@@ -1,6 +1,7 @@
-//! The wrapper's types on known tables, and every refusal that they can give, with nothing written.
+//! The wrapper's types on known tables, and every refusal that they can give, with nothing written but
+//! what a run has left.
 
-use merotunki::{Factors, MOST, Refusal, Report, Settings, Table, square_root};
+use merotunki::{Factors, MOST, Refusal, Report, Settings, Table, Unordered, square_root};
 
 // The same numbers for the same seed, between -8 and 8.
 fn drawn(seed: u64, length: usize) -> Vec<f64> {
@@ -83,6 +84,103 @@ fn plain_is_accumulating_is_the_original() {
         let step = |sum: u64, word: u64| (sum ^ word).wrapping_mul(0x100000001B3);
         assert_eq!(all.fold(0xCBF29CE484222325, step), sum);
     }
+}
+
+// What stood at position i of the diagonal goes to k, the number of positions that come before i: those
+// of a larger magnitude, and of an equal one the lower. U's column is negated where the sign bit was set.
+#[test]
+fn in_order_of_size() {
+    let mut moved = 0;
+    for (i, (stations, passes, ..)) in ANSWERS.into_iter().enumerate() {
+        let was = drawn(i as u64, stations * passes);
+        let (mut a, mut b) = (was.clone(), was);
+        let mut table = Table::new(&mut a, stations, passes).unwrap();
+        let (report, factors) = table.split_full(&Settings::default()).unwrap();
+        let diagonal: Vec<f64> = table.values().collect();
+        let (u, v) = rows(&factors, stations, passes);
+        let (mut wanted, mut wanted_u, mut wanted_v) = (diagonal.clone(), u.clone(), v.clone());
+        for (i, value) in diagonal.iter().enumerate() {
+            let before = |(j, other): (usize, &f64)| {
+                other.abs() > value.abs() || (other.abs() == value.abs() && j < i)
+            };
+            let k = diagonal.iter().enumerate().filter(|&at| before(at)).count();
+            moved += usize::from(k != i);
+            wanted[k] = value.abs();
+            for row in 0..stations {
+                let entry = u[row * stations + i];
+                wanted_u[row * stations + k] =
+                    if value.is_sign_negative() { -entry } else { entry };
+            }
+            for row in 0..passes {
+                wanted_v[row * passes + k] = v[row * passes + i];
+            }
+        }
+        let mut values = vec![f64::NAN; stations.min(passes)];
+        let mut table = Table::new(&mut b, stations, passes).unwrap();
+        let (other, ordered) = table.split_in_order(&mut values, &Settings::default()).unwrap();
+        assert_eq!(other, report);
+        assert_eq!(bits(&values), bits(&wanted));
+        let (ordered_u, ordered_v) = rows(&ordered, stations, passes);
+        assert_eq!((bits(&ordered_u), bits(&ordered_v)), (bits(&wanted_u), bits(&wanted_v)));
+        assert_eq!(bits(&b), bits(&a));
+    }
+    assert!(moved > 0);
+    let ordered = |mut a: [f64; 4]| {
+        let mut values = [7.0; 2];
+        let mut table = Table::new(&mut a, 2, 2).unwrap();
+        let factors = table.split_in_order(&mut values, &Settings::default()).unwrap().1;
+        (bits(&values), rows(&factors, 2, 2))
+    };
+    // -0 has its sign bit set, too; of -1 and 1 the first one stays the first
+    let turned = vec![0.0, 1.0, 1.0, 0.0];
+    let wanted = (bits(&[3.0, 0.0]), (vec![0.0, -1.0, 1.0, 0.0], turned));
+    assert_eq!(ordered([-0.0, 0.0, 0.0, 3.0]), wanted);
+    let identity = vec![1.0, 0.0, 0.0, 1.0];
+    assert_eq!(ordered([1.0, 0.0, 0.0, 1.0]), (bits(&[1.0; 2]), (identity.clone(), identity)));
+}
+
+#[test]
+fn not_in_order() {
+    let plain = Settings::default();
+    let split = |readings: &[f64], stations, passes, values: &mut [f64], settings: &Settings| {
+        let (mut a, were) = (readings.to_vec(), values.to_vec());
+        let mut table = Table::new(&mut a, stations, passes).unwrap();
+        let Unordered { refusal, run } = table.split_in_order(values, settings).unwrap_err();
+        assert_eq!(bits(values), bits(&were));
+        (a, refusal, run)
+    };
+    // before the run
+    let was = drawn(4, 12);
+    for length in [0, 2, 4] {
+        let (a, refusal, run) = split(&was, 4, 3, &mut vec![7.0; length], &plain);
+        assert_eq!((bits(&a), refusal, run), (bits(&was), Refusal::List, None));
+    }
+    let odd = [was[..7].to_vec(), vec![f64::NAN], was[8..].to_vec()].concat();
+    for (length, wanted) in [(3, Refusal::Reading { station: 2, pass: 1 }), (4, Refusal::List)] {
+        let (a, refusal, run) = split(&odd, 4, 3, &mut vec![7.0; length], &plain);
+        assert_eq!((bits(&a), refusal, run), (bits(&odd), wanted, None));
+    }
+    // after it: what the split with U and V leaves and hands out
+    let short = plain.with_limit(3).unwrap();
+    let stopped = Report::Stopped { passes: 3, sweeps: 3, drops: 0, range: 2 };
+    let settled = Report::Settled { passes: 0, sweeps: 0, drops: 0 };
+    let cases = [
+        (vec![0.0; 4], 2, 2, short, Refusal::Stopped, stopped),
+        (vec![f64::MAX; 2], 1, 2, plain, Refusal::Value, settled),
+        (vec![f64::MAX; 2], 2, 1, plain, Refusal::Value, settled),
+    ];
+    for (was, stations, passes, settings, wanted, report) in cases {
+        let (a, refusal, run) =
+            split(&was, stations, passes, &mut [7.0, 8.0][..stations.min(passes)], &settings);
+        let mut b = was;
+        let full = Table::new(&mut b, stations, passes).unwrap().split_full(&settings).unwrap();
+        assert_eq!((refusal, full.0), (wanted, report));
+        assert_eq!((bits(&a), run), (bits(&b), Some(full)));
+    }
+    // as an error it says what its refusal says, and `?` makes it one
+    let unordered = Unordered { refusal: Refusal::Stopped, run: None };
+    assert_eq!(unordered.to_string(), Refusal::Stopped.to_string());
+    assert_eq!(Refusal::from(unordered), Refusal::Stopped);
 }
 
 #[test]
@@ -241,15 +339,15 @@ fn bad_readings() {
 #[test]
 fn refusals_have_numbers_and_texts() {
     use Refusal::*;
-    let all =
-        [Empty, Large, Length, Stations, Passes, Count, Bound, Reading { station: 4, pass: 2 }];
-    assert_eq!(all.map(|r| r.number()), [1, 2, 3, 4, 5, 6, 7, 8]);
+    let bad = Reading { station: 4, pass: 2 };
+    let all = [Empty, Large, Length, Stations, Passes, List, Count, Bound, bad, Stopped, Value];
+    assert_eq!(all.map(|r| r.number()), [1, 2, 3, 4, 5, 11, 6, 7, 8, 12, 13]);
+    assert_eq!(bad.to_string(), "The reading of station 4 in pass 2 is not a usable number.");
     let mut texts = all.map(|r| r.to_string()).to_vec();
-    assert_eq!(texts[7], "The reading of station 4 in pass 2 is not a usable number.");
     assert!(texts.iter().all(|t| t.len() < 80 && t.ends_with('.')));
     texts.sort();
     texts.dedup();
-    assert_eq!(texts.len(), 8);
+    assert_eq!(texts.len(), 11);
 }
 
 #[test]

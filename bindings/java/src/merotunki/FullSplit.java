@@ -4,13 +4,13 @@ package merotunki;
 import java.util.Arrays;
 
 /**
- * A split with its U (stations x stations) and V (passes x passes): the readings were U x matrix x (V transposed), but
- * for rounding.
+ * A split with its U (stations x stations) and V (passes x passes). As {@link Merotunki#splitFull} hands them out, the
+ * readings were U x matrix x (V transposed), but for rounding.
  *
  * <p>A station's row of U and a pass's row of V are {@link #station} and {@link #pass}. What belongs to value k are the
  * columns k: {@link #overStations} and {@link #overPasses}. All are copies.
  */
-public final class FullSplit extends Split {
+public class FullSplit extends Split {
     private final double[] u;
     private final double[] v;
 

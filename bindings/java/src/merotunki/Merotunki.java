@@ -58,6 +58,30 @@ public final class Merotunki {
     }
 
     /**
+     * The split of {@link #splitFull} with its values in order of size, largest first, and the columns of U and V moved
+     * with them.
+     *
+     * @param readings station by station: that of station i in pass j stands at {@code i * passes + j}
+     * @param stations 1 to 48
+     * @param passes 1 to 48
+     * @param settings {@link Settings#DEFAULT} or others
+     * @return the report, what the method leaves of the table, the values, U and V
+     * @throws Refusal by 1, 2, 3 or 8; and by 12 or 13 after the run, with {@link Refusal#run}
+     */
+    public static OrderedSplit splitInOrder(double[] readings, int stations, int passes, Settings settings)
+            throws Refusal {
+        Objects.requireNonNull(readings, "readings");
+        Objects.requireNonNull(settings, "settings");
+        double[] table = readings.clone();
+        Native.askSizes(table, stations, passes); // before U, V and the list are made by them
+        double[] u = new double[stations * stations];
+        double[] v = new double[passes * passes];
+        double[] values = new double[Math.min(stations, passes)];
+        Report report = Native.splitInOrder(table, u, v, values, stations, passes, settings);
+        return new OrderedSplit(report, table, u, v, values, stations, passes);
+    }
+
+    /**
      * The double nearest to the root of x.
      *
      * @param x any number; -0, +0 and infinity stay

@@ -41,24 +41,36 @@ final class Native {
         return outcome(answer, passes);
     }
 
+    /** The same in order, with the values in the list. Refused by 12 or 13, the refusal has what the run left. */
+    static Report splitInOrder(double[] table, double[] u, double[] v, double[] values, int stations, int passes,
+            Settings s) throws Refusal {
+        long[] answer = new long[Answer.COUNT];
+        orderedSvd(answer, table, u, v, values, stations, passes, s.limit, s.credit, s.tolerance, s.absolute, s.floor);
+        int number = Answer.NUMBER.in(answer);
+        if (number == Refusal.STOPPED || number == Refusal.VALUE) {
+            throw new Refusal(number, new FullSplit(new Report(answer), table, u, v, stations, passes));
+        }
+        return outcome(answer, passes);
+    }
+
     /** Refuses by 1, 2 or 3 where the table does not fit its sizes. Writes nothing. */
     static void askSizes(double[] table, int stations, int passes) throws Refusal {
         long[] answer = new long[Answer.COUNT];
         svd(answer, table, stations, passes, UNFIT_LIMIT, 0, 0.0, 0.0, 1.0);
         int number = Answer.NUMBER.in(answer);
         if (number != SIZES_ARE_FIT) {
-            throw new Refusal(number, 0, 0);
+            throw new Refusal(number);
         }
     }
 
     private static Report outcome(long[] answer, int passes) throws Refusal {
         int number = Answer.NUMBER.in(answer);
         int place = Answer.PLACE.in(answer);
-        if (number == 8) {
-            throw new Refusal(number, place / passes, place % passes);
+        if (number == Refusal.READING) {
+            throw new Refusal(place / passes, place % passes);
         }
         if (number != 0) {
-            throw new Refusal(number, 0, 0);
+            throw new Refusal(number);
         }
         return new Report(answer);
     }
@@ -71,6 +83,9 @@ final class Native {
 
     private static native void fullSvd(long[] answer, double[] table, double[] u, double[] v, int stations, int passes,
             int limit, int credit, double tolerance, double absolute, double floor);
+
+    private static native void orderedSvd(long[] answer, double[] table, double[] u, double[] v, double[] values,
+            int stations, int passes, int limit, int credit, double tolerance, double absolute, double floor);
 
     /** Writes limit, credit, tolerance, absolute and floor. */
     static native void defaults(double[] choice);

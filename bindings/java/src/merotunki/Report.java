@@ -1,7 +1,7 @@
-// Report.java: how an accepted split ended.
+// Report.java: how a split's run ended.
 package merotunki;
 
-/** How an accepted split ended. The passes are those of the method's walk, not the survey's. */
+/** How a split's run ended. The passes are those of the method's walk, not the survey's. */
 public final class Report {
     /** Whether the method came to its end. */
     public enum Word {
@@ -22,7 +22,7 @@ public final class Report {
     /** How much of the diagonal is still live: 1 where settled, above 1 where stopped. */
     public final int range;
 
-    /** The report of an answer whose number is 0. */
+    /** The report of an answer that has a word. */
     Report(long[] answer) {
         word = Native.Answer.WORD.in(answer) == 1 ? Word.SETTLED : Word.STOPPED;
         passes = Native.Answer.PASSES.in(answer);
