@@ -104,6 +104,32 @@ def bars(box, values, places, sign, heads, under, mark=None):
     return out
 
 
+ROW = 26
+
+
+def listed(edges, y, names, rows):
+    """Rows of words from y on, in columns that end at the edges, the columns' names above."""
+    out = [text(edge, y - 10, name, "soft", "end") for edge, name in zip(edges, names)]
+    return out + [text(edge, y + (i + 0.5) * ROW + 4, word, "", "end")
+                  for i, row in enumerate(rows) for edge, word in zip(edges, row)]
+
+
+def lying(box, parts, words, scale=("",)):
+    """Bars in rows from y on, each its part of the whole width, with words at its end; under them a scale whose numbers
+    stand at even distances."""
+    x, y, wide = box
+    out, high = [], ROW * len(parts)
+    for i, mark in enumerate(scale):
+        at = x + wide * i / max(1, len(scale) - 1)
+        out.append(f'<path class="{"grid" if i else "axis"}" d="M{at:.1f} {y}v{high}"/>')
+        out += [text(at, y + high + 18, mark, "soft", "middle")] if mark else []
+    for i, (part, word) in enumerate(zip(parts, words)):
+        out.append(f'<rect class="bar" x="{x}" y="{y + (i + 0.16) * ROW:.1f}" width="{part * wide:.1f}" '
+                   f'height="{0.68 * ROW:.1f}"/>')
+        out += [text(x + part * wide + 6, y + (i + 0.5) * ROW + 4, word)] if word else []
+    return out
+
+
 def colour(share, signed):
     """From nought to one, or from minus one to one."""
     low, high = (236, 243, 249), (88, 150, 208)

@@ -5,6 +5,9 @@ from drawing import number
 from library import split
 from tables import Fault
 
+# The numbers of a split that a survey can come to: a bad reading, a run that stopped, a value that is not finite.
+BAD, STOPPED, NOT_FINITE = 8, 12, 13
+
 
 def count(many, thing):
     return f"{many} {thing}" + ("" if many == 1 else "es" if thing.endswith("s") else "s")
@@ -23,22 +26,32 @@ def rough(x):
     return f"{x:.0f}" if x >= 10 else f"{x:.2g}"
 
 
+def share_words(percent):
+    return f"{percent:.2f} %" if percent >= 0.005 or percent == 0 else "< 0.01 %"
+
+
 class Finding:
-    """What the split says of a table. Where `reason` is empty the strongest part s1 u1 v1' is to be shown: `profile` is
-    s1 u1 times the mean of v1 in m/s, `drift` is v1 against its mean in percent, `rest` is what it leaves of the readings."""
+    """What the split says of a table. `values` are the strengths, greatest first, none where they are not final;
+    `reached` are these or what a run that stopped had come to. Where `shown` holds the strongest part s1 u1 v1' is to
+    be shown: `profile` is s1 u1 times the mean of v1 in m/s, `drift` is v1 against its mean in percent, `rest` is what
+    it leaves of the readings. Else `reason` or `remedy` says why not."""
 
     def __init__(self, table):
         self.table, self.rows, self.names = table, table.rows, table.names()
         self.m, self.n = len(self.rows), len(self.rows[0])
-        self.answer, matrix, u, v = split(self.rows)
-        self.values, self.reason, self.quantity, self.leak = [], "", None, None
-        if self.answer.number not in (0, 8):
+        self.answer, self.values, matrix, u, v = split(self.rows)
+        self.reached, self.reason, self.quantity, self.leak = self.values, "", None, None
+        if self.answer.number not in (0, BAD, STOPPED, NOT_FINITE):
             raise Fault(f"the library refused the call with number {self.answer.number}")
         if self.answer.number == 0:
-            # each value with its place on the diagonal, greatest magnitude first
-            self.values = sorted(((matrix[k][k], k) for k in range(min(self.m, self.n))), key=lambda x: -abs(x[0]))
-            s, k = self.values[0]
+            self.take(self.values[0], [row[0] for row in u], [row[0] for row in v])
+        if self.answer.number == STOPPED:
+            # No list was written. What the run had reached stands on the diagonal, in no order and of either sign.
+            reached = sorted(((matrix[k][k], k) for k in range(min(self.m, self.n))), key=lambda x: -abs(x[0]))
+            self.reached, (s, k) = [abs(x) for x, _ in reached], reached[0]
             self.take(s, [row[k] for row in u], [row[k] for row in v])
+        self.refused = self.answer.number in (BAD, NOT_FINITE)
+        self.shown = not self.refused and not self.reason
 
     def take(self, s, u1, v1):
         """The strongest part, or the reason why it is not shown."""
@@ -66,9 +79,9 @@ class Finding:
         # values. Or its greatest entry is nothing at all: a first pass of zeros leaves one that is off by much. The
         # word does not tell which, but the table does. (s, u1, v1) is a part of it when T v1 = s u1 and T' u1 = s v1,
         # and then no other part is stronger if all that is left over together is smaller than s. After a stop it is
-        # shown only when both hold. After settling the first is asked as well, as a check; the diagonal has the order.
+        # shown only when both hold. After settling the first is asked as well, as a check; the list has the order.
         # Readings are measured by the greatest of them, so that the squares of tiny ones do not vanish.
-        stopped, unit = self.answer.word == 2, max(abs(x) for row in self.rows for x in row)
+        stopped, unit = self.answer.number == STOPPED, max(abs(x) for row in self.rows for x in row)
         if s == 0:
             return f"Every {'number it had reached' if unit else 'reading'} is zero, so there is no profile to show."
         rows, size = [[x / unit for x in row] for row in self.rows], s / unit
@@ -87,20 +100,29 @@ class Finding:
         return ""
 
     def verdict(self):
-        """The word in a surveyor's words. `Passes` are his walks, so what the method makes is told as turns."""
-        if self.answer.number:
-            i, j = divmod(self.answer.place, self.n)
+        """The answer in a surveyor's words. `Passes` are his walks, so what the method makes is told as turns."""
+        if self.answer.number == BAD:
             bad = sum(not math.isfinite(x) for row in self.rows for x in row)
-            return (f"Refused, number 8: the reading of station {self.names[i]} on pass {j} is no finite number "
+            return (f"Refused, number 8: the reading of {self.culprit()} is no finite number "
                     f"(place {self.answer.place}{f', the first of {bad}' if bad > 1 else ''}).")
-        if self.answer.word == 1:
-            return "Settled: the split is final."
-        return f"Stopped: the method ran out of turns before it was done ({count(self.answer.passes, 'turn')})."
+        if self.answer.number == NOT_FINITE:
+            return ("Refused, number 13: a value is not finite. "
+                    f"The largest reading, that of {self.culprit()}, is too large.")
+        if self.answer.number == STOPPED:
+            return ("The run stopped: values are not final. The method ran out of turns before it was done "
+                    f"({count(self.answer.passes, 'turn')}).")
+        return "Settled: the split is final."
+
+    def culprit(self):
+        """The station and pass of the reading that a refusal is about: the bad one, or else the largest."""
+        flat = [abs(x) for row in self.rows for x in row]
+        i, j = divmod(self.answer.place if self.answer.number == BAD else flat.index(max(flat)), self.n)
+        return f"station {self.names[i]} on pass {j}"
 
     def remedy(self):
         """What to do about a refusal."""
-        i, j = divmod(self.answer.place, self.n)
-        return f"Nothing was split. Read station {self.names[i]} on pass {j} again, or leave the station or the pass out."
+        what = "Nothing was split." if self.answer.number == BAD else "There is no split to show."
+        return f"{what} Read {self.culprit()} again, or leave the station or the pass out."
 
     def confirmed(self):
         """Why a run that stopped is shown."""
@@ -108,20 +130,25 @@ class Finding:
                 "T\u2032 u1 = s1 v1, and all that is left over together is weaker.")
 
     def shares(self):
-        """The first ten strengths with their shares of the readings' sum of squares, in percent; no share where that
-        sum is no number above zero."""
-        whole = math.hypot(*(x for row in self.rows for x in row))
-        parts = [(abs(s), 100 * (s / whole) ** 2 if 0 < whole < math.inf else None) for s, _ in self.values[:10]]
-        return [(number(s, 3), "" if p is None else f"{p:.2f} %" if p >= 0.005 or p == 0 else "< 0.01 %") for s, p in parts]
+        """The share of each strength, in percent: its square over the sum of the squares of all, which is that of the
+        readings too. None where that sum is no number above zero."""
+        whole = math.hypot(*self.values)
+        return [100 * (s / whole) ** 2 for s in self.values] if 0 < whole < math.inf else []
+
+    def listed(self):
+        """The first ten strengths, each with its share, as words."""
+        shares = [share_words(share) for share in self.shares()] or [""] * len(self.values)
+        return [(number(s, 3), share) for s, share in zip(self.values, shares)][:10]
 
     def strengths(self):
         """A sentence with the strengths. Of a run that stopped they are not known."""
-        more = f" and {len(self.values) - 10} smaller" if len(self.values) > 10 else ""
-        if self.answer.word == 1:
-            listed = ", ".join(f"{s} ({share})" if share else s for s, share in self.shares())
+        more = f" and {len(self.reached) - 10} smaller" if len(self.reached) > 10 else ""
+        if self.values:
+            listed = ", ".join(f"{s} ({share})" if share else s for s, share in self.listed())
             return f"Strengths, greatest first, each with its share of the readings\u2019 sum of squares: {listed}{more}."
         which = "not to be read as strengths" if self.reason else "only the first is known to be a strength"
-        return f"The numbers it had reached, greatest first, {which}: " + ", ".join(s for s, _ in self.shares()) + f"{more}."
+        listed = ", ".join(number(s, 3) for s in self.reached[:10])
+        return f"The numbers it had reached, greatest first, {which}: {listed}{more}."
 
     def left_over(self):
         """The largest that the strongest part leaves, where it is, and the root mean square."""

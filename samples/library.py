@@ -1,4 +1,4 @@
-"""The proved library, called from Python: its accumulating split with the default settings. samples/build makes it."""
+"""The proved library, called from Python: a split by its name, and the one in order. samples/build builds it."""
 import ctypes
 import pathlib
 
@@ -21,6 +21,8 @@ def library():
     if not LIBRARY.exists():
         raise Fault("the library is not built yet: run samples/build")
     loaded, choice = ctypes.CDLL(str(LIBRARY)), Choice()
+    if not hasattr(loaded, "merotunki_ordered_svd"):
+        raise Fault("the library is an older one: run samples/build again")
     loaded.merotunki_defaults(ctypes.byref(choice))
     return loaded, [kind(getattr(choice, name)) for name, kind in Choice._fields_]
 
@@ -41,11 +43,20 @@ def by_rows(lent, width):
     return [list(lent[0][i:i + width]) for i in range(0, len(lent[0]), width)]
 
 
-def split(rows):
-    """The accumulating call, default settings, U and V from the identity: answer, matrix, U and V, each by rows."""
-    answer, m, n = Answer(), len(rows), len(rows[0])
-    loaded, settings = library()
-    matrix, u, v = lend([x for row in rows for x in row]), identity(loaded, m), identity(loaded, n)
+def call(name, slices, m, n, settings=()):
+    """The split of that name on slices that are lent to it: its answer. Without settings, with the defaults."""
+    answer, (loaded, defaults) = Answer(), library()
+    lent = [part for pair in slices for part in pair]
     sizes = ctypes.c_size_t(m), ctypes.c_size_t(n)
-    loaded.merotunki_full_svd(ctypes.byref(answer), *matrix, *u, *v, *sizes, *settings)
-    return answer, by_rows(matrix, n), by_rows(u, m), by_rows(v, n)
+    getattr(loaded, name)(ctypes.byref(answer), *lent, *sizes, *(settings or defaults))
+    return answer
+
+
+def split(rows):
+    """The split in order, default settings, U and V from the identity: answer, values; matrix, U and V by rows. Where
+    the number is not 0 there are no values: the call leaves the list as it was."""
+    m, n, (loaded, _) = len(rows), len(rows[0]), library()
+    matrix, u, v = lend([x for row in rows for x in row]), identity(loaded, m), identity(loaded, n)
+    values = lend([0.0] * min(m, n))
+    answer = call("merotunki_ordered_svd", (matrix, u, v, values), m, n)
+    return answer, [] if answer.number else list(values[0]), by_rows(matrix, n), by_rows(u, m), by_rows(v, n)

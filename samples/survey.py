@@ -5,6 +5,7 @@
     survey.py table SURVEY.txt              survey text back into tables, every double exactly (any NaN as nan)
     survey.py show TABLE.csv|SURVEY.txt     what the split says, for a terminal
     survey.py picture TABLE.csv             the same as an SVG: profile of the roadway, drift of the fan, what is left over
+    survey.py values TABLE.csv              the strengths in order, each with its share, as an SVG
 
 A table has a line for each station and a column for each pass, with commas or blanks between; nan is a reading that
 failed. Stations and passes count from 0. A line that begins with # is a comment; the first is the title. Three kinds of
@@ -19,8 +20,8 @@ import pathlib
 import sys
 import textwrap
 
-from drawing import bars, cells, number, page, text, wrapped
-from findings import Finding, count
+from drawing import ROW, bars, cells, heading, listed, lying, number, page, text, wrapped
+from findings import Finding, count, share_words
 from tables import Fault, from_text, read, to_decimals, to_text
 
 
@@ -29,22 +30,22 @@ def sizes(found):
     return f"{count(found.m, 'station')}, {count(found.n, 'pass')}, readings in m/s{finest}"
 
 
-# The picture
+# The pictures
 
 def caption(found):
     """What the picture says: a warning or none, and the sentences under it."""
-    if found.answer.number:
+    if found.refused:
         return found.verdict(), [found.remedy() + " Below are the readings as they came in.", found.rows_note()]
     notes = [found.reason] if found.reason else []
-    if found.answer.word == 1:
+    if found.values:
         notes.insert(0, f"{found.verdict()} {found.strengths()}")
     else:
         notes += ([] if found.reason else [found.confirmed()]) + [found.strengths()]
     if found.leak:
         notes.append(found.leak.sentence())
-    if not found.reason:
+    if found.shown:
         notes.append(found.left_over())
-    return found.verdict() if found.answer.word == 2 else "", notes + [found.rows_note()]
+    return "" if found.values else found.verdict(), notes + [found.rows_note()]
 
 
 def panels(found, y):
@@ -73,31 +74,72 @@ def readings(found, y):
     """The readings themselves, where there is no strongest part to show; and where they end."""
     finite = [x for row in found.rows for x in row if math.isfinite(x)]
     sign, full = "+" if any(x < 0 for x in finite) else "", max(map(abs, finite), default=0.0) or 0.01
-    under = "as they came in" + ("; a cross is a reading that is no finite number" if found.answer.number else "")
-    return cells(70, y, found.rows, found.names, sign, 2, full, ("The readings, m/s", under))
+    crosses = "; a cross is a reading that is no finite number" if len(finite) < found.m * found.n else ""
+    return cells(70, y, found.rows, found.names, sign, 2, full, ("The readings, m/s", "as they came in" + crosses))
+
+
+def title(found):
+    return found.table.title or "A survey"
+
+
+def top(found, warning):
+    """The title, the sizes and a warning or none; and where they end."""
+    out, y = [], 12
+    for line in wrapped(title(found), 20):
+        out.append(text(24, y := y + 26, line, "title"))
+    out.append(text(24, y := y + 22, sizes(found), "soft"))
+    for line in wrapped(warning, 14) if warning else []:
+        out.append(text(24, y := y + 28, line, "head warn"))
+    return out, y
+
+
+def sentences(notes, y):
+    """The notes in lines from y on; and where they end."""
+    lines = [line for note in notes for line in wrapped(note)]
+    return [text(24, y + 20 * i, line) for i, line in enumerate(lines, 1)], y + 20 * len(lines)
 
 
 def picture(table):
     found = Finding(table)
     warning, notes = caption(found)
-    title = table.title or "A survey"
-    out, y = [], 12
-    for line in wrapped(title, 20):
-        out.append(text(24, y := y + 26, line, "title"))
-    out.append(text(24, y := y + 22, sizes(found), "soft"))
-    for line in wrapped(warning, 14) if warning else []:
-        out.append(text(24, y := y + 28, line, "head warn"))
-    shown = found.answer.number == 0 and not found.reason
-    if shown:
+    out, y = top(found, warning)
+    if found.shown:
         drawn, y = panels(found, y + 98)
-        y += 14
+        said, y = sentences(notes, y + 14)
     else:
-        y += 4
-    for line in [line for note in notes for line in wrapped(note)]:
-        out.append(text(24, y := y + 20, line))
-    if not shown:
+        said, y = sentences(notes, y + 4)
         drawn, y = readings(found, y + 98)
-    return page(title, out + drawn, math.ceil(y + 28))
+    return page(title(found), out + said + drawn, math.ceil(y + 28))
+
+
+def values(table):
+    """The strengths in order with their shares, ten at most; where they are not final, why not."""
+    found = Finding(table)
+    out, y = top(found, "" if found.values else found.verdict())
+    if not found.values:
+        notes = [found.remedy()] if found.refused else [found.strengths(), found.reason]
+        said, y = sentences(filter(None, notes), y + 4)
+        return page(title(found), out + said, y + 28)
+    y, shares = y + 116, found.shares()
+    rows = [(str(k), *words) for k, words in enumerate(found.listed())]
+    out += heading(70, y - 18, ("Strengths, greatest first", "share: its square over the sum of the squares of all"))
+    out += listed((70, 150, 224), y, ("column", "strength", "share"), rows)
+    parts = [share / 100 for share in shares] or [0.0] * len(rows)
+    out += lying((248, y, 232), parts[:10], [""] * len(rows), ("0", "50 %", "100 %"))
+    if len(rows) > 1 and found.values[1]:
+        out += heading(606, y - 18, ("Without the first, drawn larger", "the other strengths, on a scale of their own"))
+        out += listed((606,), y + ROW, ("column",), [row[:1] for row in rows[1:]])
+        parts = [s / found.values[1] for s in found.values[1:10]]
+        out += lying((630, y + ROW, 236), parts, [row[1] for row in rows[1:]])
+    notes = [found.verdict()]
+    if len(shares) > 1:
+        notes[0] += (f" The first strength has {share_words(shares[0])} of the whole, the others together have "
+                     f"{share_words(math.fsum(shares[1:]))}.")
+    if len(found.values) > 10:
+        notes.append(f"These are the first ten of {len(found.values)}.")
+    notes.append("Each belongs to its column of U, over the stations, and of V, over the passes; columns count from 0.")
+    said, y = sentences(notes, y + ROW * len(rows) + 32)
+    return page(title(found), out + said, math.ceil(y + 28))
 
 
 # The words for a terminal
@@ -112,9 +154,9 @@ def columns(heads, rows):
 
 
 def strengths(found):
-    """The first ten strengths in columns, each with its share and with the value as it stands on the diagonal of S."""
-    lines = columns(("strength", "share", "value", "column of U and V"),
-                    [(s, share or "-", number(x, 3), str(k)) for (s, share), (x, k) in zip(found.shares(), found.values)])
+    """The first ten strengths in columns, each with its share and with the column of U and V that it belongs to."""
+    lines = columns(("strength", "share", "column of U and V"),
+                    [(s, share or "-", str(k)) for k, (s, share) in enumerate(found.listed())])
     more = len(found.values) - 10
     lines += [f"  and {more} smaller"] if more > 0 else []
     return ["Strengths, greatest first; the share is of the readings' sum of squares"] + lines
@@ -137,13 +179,13 @@ def show(table):
     found = Finding(table)
     name = f"Survey {table.number}" if table.number else "A survey"
     head = [f"{name}: {table.title}" if table.title else name, sizes(found)]
-    if found.answer.number:
+    if found.refused:
         parts = [head, [found.verdict(), found.remedy()]]
-    elif found.answer.word == 2:
-        parts = [head, [found.verdict(), found.reason or found.confirmed(), found.strengths()]]
-    else:
+    elif found.values:
         parts = [head, [found.verdict()] + ([found.reason] if found.reason else []), strengths(found)]
-    if found.answer.number == 0 and not found.reason:
+    else:
+        parts = [head, [found.verdict(), found.reason or found.confirmed(), found.strengths()]]
+    if found.shown:
         parts += [profile(found)] + ([[found.leak.sentence()]] if found.leak else [])
         drift = [(str(j), number(x, 1, "+")) for j, x in enumerate(found.drift)]
         parts += [["Drift of the fan"] + columns(("pass", "%"), drift), [found.left_over()]]
@@ -154,7 +196,7 @@ def show(table):
 
 def main():
     parser = argparse.ArgumentParser(description=__doc__, formatter_class=argparse.RawDescriptionHelpFormatter)
-    parser.add_argument("what", choices=("text", "table", "show", "picture"))
+    parser.add_argument("what", choices=("text", "table", "show", "picture", "values"))
     parser.add_argument("files", nargs="+", type=pathlib.Path)
     parser.add_argument("--id", type=int, help="id of the first survey; the others count up from it")
     given = parser.parse_args()
@@ -163,10 +205,10 @@ def main():
             result = "\n".join(to_decimals(from_text(path)) for path in given.files)
         else:
             tables = [table for path in given.files for table in read(path)]
-            if given.what == "picture" and len(tables) != 1:
+            if given.what in ("picture", "values") and len(tables) != 1:
                 raise Fault("a picture shows one table")
             result = (to_text(tables, given.id) if given.what == "text" else picture(tables[0]) if given.what == "picture"
-                      else "\n".join(map(show, tables)))
+                      else values(tables[0]) if given.what == "values" else "\n".join(map(show, tables)))
     except (Fault, OSError, UnicodeDecodeError) as error:
         sys.exit(f"survey.py: {error}")
     sys.stdout.buffer.write(result.encode())
