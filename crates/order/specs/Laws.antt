@@ -1,5 +1,5 @@
 -- For the proofs of the loops: where the diagonal lies, and what one turn of each loop does. Assumes nothing.
-use mathlib.Core.Path.{_≡_, sym, _∙_}
+use mathlib.Core.Path.{_≡_, refl, sym, _∙_}
 use mathlib.Core.Bool.{Bool, true, false, _&&_, _||_}
 use mathlib.Core.List.{List}
 use Prim.Native.Nat.{ℕ, _+_, _*_, _<_, _≤_}
@@ -22,6 +22,17 @@ module _ (cols c : ℕ) (b : List Float) (r : Room cols c b) (i : ℕ) (h : i < 
   entry-few =
       omega
       (arith, row-in i c cols h, r .narrow, r .wide, few c cols (omega (arith, r .narrow, r .wide)) (omega (arith, r .wide)))
+
+-- which of two comes first: the larger, of equal ones the lower position, and else the other
+module _ (x y : Float) (i j : ℕ) where
+  pub larger-first : lt y x ≡ true → true ≡ (lt y x || (eq x y && ltb i j))
+  larger-first e = rw e refl
+
+  pub equal-first : lt y x ≡ false → eq x y ≡ true → ltb i j ≡ (lt y x || (eq x y && ltb i j))
+  equal-first e q = rw (e, q) refl
+
+  pub smaller-last : lt y x ≡ false → eq x y ≡ false → false ≡ (lt y x || (eq x y && ltb i j))
+  smaller-last e q = rw (e, q) refl
 
 -- one position more counted
 pub count-step :
