@@ -1,6 +1,6 @@
 -- The order of a diagonal by `ahead`: that it is an order where the entries are finite, what it then says of the
 -- magnitudes (`LargestFirst`), and that no other list says so. Assumes nothing.
-use mathlib.Core.Path.{_≡_, refl, sym, _∙_}
+use mathlib.Core.Path.{_≡_, refl, sym, ap, _∙_}
 use mathlib.Core.Bool.{Bool, true, false, _&&_, _||_, true≢false, false≢true}
 use mathlib.Core.List.{List}
 use Prim.Native.Nat.{ℕ, suc, _*_, _<_, _≤_}
@@ -135,7 +135,9 @@ module _ (c : ℕ) (d : ℕ → Float) (fine : Finite c d) where
   ahead-test : (i j : ℕ) → i < c → j < c → ahead d i j ≡ test (w j i) (w i j) i j
   unfolding ahead test w
   ahead-test i j h g =
-      rw (lt-weigh (d j) (d i) (fine j g) (fine i h), eq-weigh (d i) (d j) (fine i h) (fine j g)) refl
+      let level = eq (magnitude (d i)) (magnitude (d j)) in
+      ap (λ (t : Bool). t || (level && ltb i j)) (lt-weigh (d j) (d i) (fine j g) (fine i h))
+      ∙ ap (λ (t : Bool). ltb (w j i) (w i j) || (t && ltb i j)) (eq-weigh (d i) (d j) (fine i h) (fine j g))
 
   trans : (i j k : ℕ) → i < c → j < c → k < c → w i j ≤ w j i → w j k ≤ w k j → w i k ≤ w k i
   unfolding w

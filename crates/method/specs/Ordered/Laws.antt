@@ -64,15 +64,22 @@ module _ (f : Format) (rows cols : ℕ) (s : Settings) (w : Work) (l : List Floa
 
   -- ---- a settled answer is the same at every greater allowed limit
 
-  -- the word is the run's
-  ran-word : putInOrder rows cols ran l .run .report .word ≡ ran .report .word
-  ran-word = go (eqb (foundAfter rows cols ran l .number) 0) refl
+  -- refused after the run or not, word and counts are the run's, and so is the matrix
+  pub as-ran :
+      let o = putInOrder rows cols ran l .run in
+      (o .report .word ≡ ran .report .word)
+      × (o .report .tally ≡ ran .report .tally)
+      × (o .held .matrix ≡ ran .held .matrix)
+  as-ran = go (eqb (foundAfter rows cols ran l .number) 0) refl
     where
       go :
           (b : Bool) → eqb (foundAfter rows cols ran l .number) 0 ≡ b →
-          putInOrder rows cols ran l .run .report .word ≡ ran .report .word
-      go true t = rw (put-in-order rows cols ran l (eqb-true _ 0 t)) refl
-      go false t = rw (refused-after rows cols ran l (eqb-false _ 0 t)) refl
+          let o = putInOrder rows cols ran l .run in
+          (o .report .word ≡ ran .report .word)
+          × (o .report .tally ≡ ran .report .tally)
+          × (o .held .matrix ≡ ran .held .matrix)
+      go true t = rw (put-in-order rows cols ran l (eqb-true _ 0 t)) (refl, refl, refl)
+      go false t = rw (refused-after rows cols ran l (eqb-false _ 0 t)) (refl, refl, refl)
 
   -- what settled was not refused before the run, and the run settled
   pub settled-ran :
@@ -85,7 +92,7 @@ module _ (f : Format) (rows cols : ℕ) (s : Settings) (w : Work) (l : List Floa
           (orderedRefusal rows cols s w l .number ≡ 0) × (ran .report .word ≡ settled)
       go true t =
           let z = eqb-true _ 0 t in
-          (z, sym ran-word ∙ ap (λ (o : Ordered). o .run .report .word) (sym (ran-on rows cols s w l f z)) ∙ e)
+          (z, sym (as-ran .0) ∙ ap (λ (o : Ordered). o .run .report .word) (sym (ran-on rows cols s w l f z)) ∙ e)
       go false t =
           let q : none ≡ settled = rw (refused-before rows cols s w l f (eqb-false _ 0 t)) at e in
           absurd (let z : 0 ≡ 1 = ap wordNumber q in omega (arith, z))
