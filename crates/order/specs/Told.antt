@@ -86,25 +86,22 @@ module _ (rows cols : ℕ) (s : Settings) (w₀ : Work) (l₀ : List Float) (r :
     full-free e =
         a′ ∙ accepted-outcome binary64 true rows cols (settingsOf s) w₀ (lent-none rows cols (settingsOf s) w₀ l₀ e .1)
 
-    -- and word, counts and matrix are the same
+    -- which it was where the run was made,
+    free : (r .refusal .number ≡ 0) ⊎ (12 ≤ r .refusal .number) → orderedRefusal rows cols (settingsOf s) w₀ l₀ .number ≡ 0
+    free (inl z) = sorts rows cols (settingsOf s) w₀ l₀ binary64 (sym told-number ∙ z) .before
+    free (inr high) = ordered-after rows cols (settingsOf s) w₀ l₀ binary64 (rw told-number at high)
+
+    -- and then word, counts and matrix are the same
     pub as-full :
         (r .refusal .number ≡ 0) ⊎ (12 ≤ r .refusal .number) →
         (wordIn (r .word) ≡ wordIn (r′ .word))
         × (tallyOf (r .tally) ≡ tallyOf (r′ .tally))
         × (w .matrix ≡ w′ .matrix)
-    as-full (inl z) =
-        let k = sorts rows cols (settingsOf s) w₀ l₀ binary64 (sym told-number ∙ z) in
-        let q = a ∙ Laws.in-order-outcome binary64 rows cols (settingsOf s) w₀ l₀ k in
-        let q′ = full-free (k .before) in (
-          ap (λ (x : Report.Report). x .word) (reportsOf q) ∙ ap (λ (o : Outcome). o .report .word) (sym q′),
-          ap (λ (x : Report.Report). x .tally) (reportsOf q) ∙ ap (λ (o : Outcome). o .report .tally) (sym q′),
-          ap (λ (x : Work). x .matrix) (listsOf q) ∙ ap (λ (o : Outcome). o .held .matrix) (sym q′),
-        )
-    as-full (inr high) =
-        let q = told-after high in
-        let q′ =
-        full-free (ordered-after rows cols (settingsOf s) w₀ l₀ binary64 (rw told-number at high)) in (
-          ap (λ (x : Report.Report). x .word) (reportsOf q) ∙ ap (λ (o : Outcome). o .report .word) (sym q′),
-          ap (λ (x : Report.Report). x .tally) (reportsOf q) ∙ ap (λ (o : Outcome). o .report .tally) (sym q′),
-          ap (λ (x : Work). x .matrix) (listsOf q) ∙ ap (λ (o : Outcome). o .held .matrix) (sym q′),
+    as-full h =
+        let q = runsOf (a ∙ ran-on rows cols (settingsOf s) w₀ l₀ binary64 (free h)) in
+        let q′ = full-free (free h) in
+        let same = Laws.as-ran binary64 rows cols (settingsOf s) w₀ l₀ in (
+          ap (λ (o : Outcome). o .report .word) q ∙ same .0 ∙ ap (λ (o : Outcome). o .report .word) (sym q′),
+          ap (λ (o : Outcome). o .report .tally) q ∙ same .1 ∙ ap (λ (o : Outcome). o .report .tally) (sym q′),
+          ap (λ (o : Outcome). o .held .matrix) q ∙ same .2 ∙ ap (λ (o : Outcome). o .held .matrix) (sym q′),
         )
