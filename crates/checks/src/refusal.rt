@@ -6,7 +6,7 @@ ghost use lib.Dec.{eqb, ltb};
 ghost use Rattle.method.specs.Work.{work};
 ghost use Rattle.method.specs.Settings.{mostSize, mostLimit, mostCredit};
 ghost use Rattle.method.specs.Checks.{boundFit, floorFit, firstOf, refusal, refusalOf};
-ghost use Rattle.method.specs.Checks.{sizeChecks, lengthChecks, settingChecks, readingChecks};
+ghost use Rattle.method.specs.Checks.{sizeChecks, lengthChecks, tableChecks, settingChecks, readingChecks};
 ghost use Rattle.method.specs.Ordered.{listChecks, lentChecks};
 ghost use Prim.Native.Nat.{_*_, _≤_};
 ghost use lib.ListN.{length};
@@ -139,7 +139,19 @@ fn reading_refusal(b: &[f64], rows: usize, cols: usize) -> Refusal
     refuse(0, 0)
 }
 
-// The first refusal that applies: of the sizes, of the lengths, of the settings, of the readings.
+// Of the sizes, and then of the lengths.
+fn table_refusal(b: &[f64], u: &[f64], v: &[f64], kept: bool, rows: usize, cols: usize) -> Refusal
+    ensures { λ r. ⌜ refusalIn r
+        ≡ firstOf (tableChecks kept rows cols (work (now (b .entry)) (now (u .entry)) (now (v .entry)))) ⌝ }
+{
+    let of_sizes = size_refusal(rows, cols);
+    if of_sizes.number != 0 {
+        return of_sizes;
+    }
+    length_refusal(b, u, v, kept, rows, cols)
+}
+
+// The first refusal that applies: of the sizes and the lengths, of the settings, of the readings.
 pub fn first_refusal(
     b: &[f64],
     u: &[f64],
@@ -152,13 +164,9 @@ pub fn first_refusal(
     ensures { λ r. ⌜ refusalIn r
         ≡ refusalOf kept rows cols (settingsOf s) (work (now (b .entry)) (now (u .entry)) (now (v .entry))) ⌝ }
 {
-    let of_sizes = size_refusal(rows, cols);
-    if of_sizes.number != 0 {
-        return of_sizes;
-    }
-    let of_lengths = length_refusal(b, u, v, kept, rows, cols);
-    if of_lengths.number != 0 {
-        return of_lengths;
+    let of_table = table_refusal(b, u, v, kept, rows, cols);
+    if of_table.number != 0 {
+        return of_table;
     }
     let of_settings = setting_refusal(s);
     if of_settings.number != 0 {
@@ -191,13 +199,9 @@ pub fn lent_refusal(
     ensures { λ r. ⌜ refusalIn r
         ≡ firstOf (lentChecks rows cols (work (now (b .entry)) (now (u .entry)) (now (v .entry))) (now (list .entry))) ⌝ }
 {
-    let of_sizes = size_refusal(rows, cols);
-    if of_sizes.number != 0 {
-        return of_sizes;
-    }
-    let of_lengths = length_refusal(b, u, v, true, rows, cols);
-    if of_lengths.number != 0 {
-        return of_lengths;
+    let of_table = table_refusal(b, u, v, true, rows, cols);
+    if of_table.number != 0 {
+        return of_table;
     }
     list_refusal(list, rows, cols)
 }

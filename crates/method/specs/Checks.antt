@@ -78,6 +78,10 @@ lengthChecks kept rows cols w =
     ∷ check 5 (kept && not (eqb (length (w .v)) (cols * cols)))
     ∷ []
 
+-- both, one after the other
+abbrev pub tableChecks : Bool → ℕ → ℕ → Work → List Check
+tableChecks kept rows cols w = sizeChecks rows cols ++ lengthChecks kept rows cols w
+
 abbrev pub settingChecks : Settings → List Check
 settingChecks s =
     check 6 (ltb mostLimit (s .limit) || ltb mostCredit (s .credit))
@@ -89,7 +93,7 @@ readingChecks b = placed 8 (ltb (firstBad b) (length b)) (firstBad b) ∷ []
 
 abbrev pub checks : Bool → ℕ → ℕ → Settings → Work → List Check
 checks kept rows cols s w =
-    sizeChecks rows cols ++ lengthChecks kept rows cols w ++ settingChecks s ++ readingChecks (w .matrix)
+    tableChecks kept rows cols w ++ settingChecks s ++ readingChecks (w .matrix)
 
 abbrev pub refusalOf : Bool → ℕ → ℕ → Settings → Work → Refusal
 refusalOf kept rows cols s w = firstOf (checks kept rows cols s w)

@@ -15,7 +15,7 @@ use Rattle.method.specs.Repeated.{repeated}
 use Rattle.method.specs.Work.{Work, work}
 use Rattle.method.specs.Settings.{Settings}
 use Rattle.method.specs.Checks.{Check, check, Refusal, firstOf}
-use Rattle.method.specs.Checks.{sizeChecks, lengthChecks, settingChecks, readingChecks}
+use Rattle.method.specs.Checks.{tableChecks, settingChecks, readingChecks}
 use Rattle.method.specs.Report.{Word, isSettled, Report, refused}
 use Rattle.method.specs.Outcome.{Outcome, outcomeOf, card, accepted}
 use Rattle.method.specs.Order.{diagonal, oldPosition, valuesBy, uBy, vBy}
@@ -36,7 +36,7 @@ listChecks rows cols l = check 11 (not (eqb (length l) (card rows cols))) ∷ []
 
 -- all that is lent: the sizes, then the lengths, that of the list last
 abbrev pub lentChecks : ℕ → ℕ → Work → List Float → List Check
-lentChecks rows cols w l = sizeChecks rows cols ++ lengthChecks true rows cols w ++ listChecks rows cols l
+lentChecks rows cols w l = tableChecks true rows cols w ++ listChecks rows cols l
 
 -- and then what the accumulating call checks besides
 abbrev pub orderedChecks : ℕ → ℕ → Settings → Work → List Float → List Check

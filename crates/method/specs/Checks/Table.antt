@@ -15,7 +15,8 @@ use Rattle.method.specs.Floats.{plusZero}
 use Rattle.method.specs.Work.{Work}
 use Rattle.method.specs.Settings.{Settings, mostSize, mostLimit, mostCredit}
 use Rattle.method.specs.Checks.{Check, placed, Refusal, firstOf, firstBad, boundFit, floorFit, sizeChecks}
-use Rattle.method.specs.Checks.{refusal, lengthChecks, settingChecks, readingChecks, checks, refusalOf}
+use Rattle.method.specs.Checks.{refusal, lengthChecks, tableChecks, settingChecks, readingChecks, checks}
+use Rattle.method.specs.Checks.{refusalOf}
 use Rattle.method.specs.Checks.Tests.{less, same, holds, lacks, nor, either, both, notAll, some, few, equal}
 use Rattle.method.specs.Checks.First.{first-here, first-beyond, first-hit, first-miss, first-none, Meaning, means}
 use Rattle.method.specs.Checks.First.{Means, done, _⨾_, means-join, First, first-means, None, none-join}
@@ -97,7 +98,7 @@ pub record Clear (kept : Bool) (rows cols : ℕ) (s : Settings) (w : Work) : Typ
 
 -- the checks before the readings
 abbrev before : Bool → ℕ → ℕ → Settings → Work → List Check
-before kept rows cols s w = sizeChecks rows cols ++ lengthChecks kept rows cols w ++ settingChecks s
+before kept rows cols s w = tableChecks kept rows cols w ++ settingChecks s
 
 -- ---- each test says its condition
 
@@ -132,13 +133,20 @@ sizes-passed rows cols e z =
     let n = none-refused (size-tests rows cols) refl .0 (rw e at z) in
     (few mostSize rows (λ l. n .1 .0 (inl l)), few mostSize cols (λ l. n .1 .0 (inr l)))
 
--- where no length is refused, the matrix has its own
-pub lengths-passed :
-    (kept : Bool) (rows cols : ℕ) (w : Work) {r : Refusal} → r ≡ firstOf (lengthChecks kept rows cols w) →
+-- where no length is refused either, the matrix has its own
+pub table-passed :
+    (kept : Bool) (rows cols : ℕ) (w : Work) {r : Refusal} → r ≡ firstOf (tableChecks kept rows cols w) →
     r .number ≡ 0 →
-    length (w .matrix) ≡ rows * cols
-lengths-passed kept rows cols w e z =
-    equal (length (w .matrix)) (rows * cols) (none-refused (length-tests kept rows cols w) refl .0 (rw e at z) .0)
+    (length (w .matrix) ≡ rows * cols) × (rows ≤ mostSize) × (cols ≤ mostSize)
+table-passed kept rows cols w e z =
+    let tests = means-join (size-tests rows cols) (length-tests kept rows cols w) in
+    let n =
+    none-join (sizeMeanings rows cols) (lengthMeanings kept rows cols w) .0
+    (none-refused tests refl .0 (rw e at z)) in (
+      equal (length (w .matrix)) (rows * cols) (n .1 .0),
+      few mostSize rows (λ l. n .0 .1 .0 (inl l)),
+      few mostSize cols (λ l. n .0 .1 .0 (inr l)),
+    )
 
 module _ (kept : Bool) (rows cols : ℕ) (s : Settings) (w : Work) where
   tests : Means (checks kept rows cols s w) (meanings kept rows cols s w)

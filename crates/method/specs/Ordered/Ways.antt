@@ -10,7 +10,7 @@ use borrow.Author.Tests.{eqb-true, eqb-false, eq-eqb, ne-eqb}
 use Rattle.method.specs.Work.{Work}
 use Rattle.method.specs.Settings.{Settings}
 use Rattle.method.specs.Checks.{Refusal, firstOf, refusalOf}
-use Rattle.method.specs.Checks.{sizeChecks, lengthChecks, settingChecks, readingChecks}
+use Rattle.method.specs.Checks.{tableChecks, settingChecks, readingChecks}
 use Rattle.method.specs.Checks.First.{first-here, first-beyond}
 use Rattle.method.specs.Report.{refused}
 use Rattle.method.specs.Outcome.{Outcome, outcomeOf, card, accepted}
@@ -28,19 +28,19 @@ module _ (rows cols : ℕ) (s : Settings) (w : Work) (l : List Float) where
       first-here (lentChecks rows cols w l) (settingChecks s ++ readingChecks (w .matrix)) refl e h
 
   -- where nothing is, sizes and lengths are fit, too,
-  sizes-lengths :
+  table-passed :
       firstOf (lentChecks rows cols w l) .number ≡ 0 →
-      firstOf (sizeChecks rows cols ++ lengthChecks true rows cols w) .number ≡ 0
-  sizes-lengths e = go (eqb (firstOf (sizeChecks rows cols ++ lengthChecks true rows cols w) .number) 0) refl
+      firstOf (tableChecks true rows cols w) .number ≡ 0
+  table-passed e = go (eqb (firstOf (tableChecks true rows cols w) .number) 0) refl
     where
       go :
-          (b : Bool) → eqb (firstOf (sizeChecks rows cols ++ lengthChecks true rows cols w) .number) 0 ≡ b →
-          firstOf (sizeChecks rows cols ++ lengthChecks true rows cols w) .number ≡ 0
+          (b : Bool) → eqb (firstOf (tableChecks true rows cols w) .number) 0 ≡ b →
+          firstOf (tableChecks true rows cols w) .number ≡ 0
       go true t = eqb-true _ 0 t
       go false t =
           let h = eqb-false _ 0 t in
           let q =
-          first-here (sizeChecks rows cols ++ lengthChecks true rows cols w) (listChecks rows cols l) refl refl h in
+          first-here (tableChecks true rows cols w) (listChecks rows cols l) refl refl h in
           absurd (h (ap (λ (x : Refusal). x .number) q ∙ e))
 
   -- and the refusal is the accumulating call's
@@ -50,8 +50,8 @@ module _ (rows cols : ℕ) (s : Settings) (w : Work) (l : List Float) where
   lent-passed e z =
       let rest = settingChecks s ++ readingChecks (w .matrix) in
       sym (first-beyond (lentChecks rows cols w l) rest refl e z refl)
-      ∙ first-beyond (sizeChecks rows cols ++ lengthChecks true rows cols w) rest refl refl
-      (sizes-lengths (rw e at z)) refl
+      ∙ first-beyond (tableChecks true rows cols w) rest refl refl
+      (table-passed (rw e at z)) refl
 
   -- ---- the ways out
 
