@@ -1,4 +1,5 @@
--- Any two answers that the promise of the ordered call allows are equal, with every slice that was lent. Assumes nothing.
+-- Any two answers that the promise of the ordered call allows are equal, with every slice that was lent. Assumes
+-- nothing.
 use mathlib.Core.Path.{_≡_, sym, ap, _∙_}
 use mathlib.Core.List.{List}
 use Prim.Native.Nat.{ℕ}

@@ -1,7 +1,7 @@
 -- What the ordered call owes, as theorems: on every input, of whatever its promise allows it to report and to leave in
 -- what it was lent. It goes with the demands on the two calls beneath (svd's Demands). First the statements, then that
--- they hold of every answer, and what holds of two calls. They lean on the definition: `orderedOutcome`, `accepted`, and
--- the lists `orderedMeanings` and `runMeanings` (method's Ordered, Outcome, Ordered.Numbers). Assumes nothing.
+-- they hold of every answer, and what holds of two calls. They lean on the definition: `orderedOutcome`, `accepted`,
+-- and the lists `orderedMeanings` and `runMeanings` (method's Ordered, Outcome, Ordered.Numbers). Assumes nothing.
 use mathlib.Core.Path.{_≡_, sym, ap, _∙_}
 use mathlib.Core.Logic.{_↔_, _⊎_}
 use mathlib.Core.Bool.{true, false}
@@ -166,7 +166,8 @@ module _ {rows cols : ℕ} {s : Settings} {w₀ : Work} {l₀ : List Float} {r :
   pub in-order :
       OrderedAllowed rows cols s w₀ l₀ r w l → r .refusal .number ≡ 0 → InOrder rows cols s w₀ l₀ r w l
   in-order a e =
-      let k = sorts rows cols (settingsOf s) w₀ l₀ binary64 (sym (told-number rows cols s w₀ l₀ r w l (a .promise)) ∙ e) in
+      let none = sym (told-number rows cols s w₀ l₀ r w l (a .promise)) ∙ e in
+      let k = sorts rows cols (settingsOf s) w₀ l₀ binary64 none in
       let q = a .promise ∙ Laws.in-order-outcome binary64 rows cols (settingsOf s) w₀ l₀ k in
       let values = valuesOf q in
       let u = ap (λ (x : Work). x .u) (listsOf q) in
@@ -193,9 +194,10 @@ module _ {rows cols : ℕ} {s : Settings} {w₀ : Work} {l₀ : List Float} {r :
         v-column = rw v (Laws.v-at binary64 rows cols (settingsOf s) w₀ l₀ k);
         u-stays = rw u (Laws.u-stays binary64 rows cols (settingsOf s) w₀ l₀ k);
         v-stays = rw v (Laws.v-stays binary64 rows cols (settingsOf s) w₀ l₀ k);
-        lengths =
-            rw (u, v)
-            (Laws.u-length binary64 rows cols (settingsOf s) w₀ l₀ k, Laws.v-length binary64 rows cols (settingsOf s) w₀ l₀ k);
+        lengths = (
+          rw u (Laws.u-length binary64 rows cols (settingsOf s) w₀ l₀ k),
+          rw v (Laws.v-length binary64 rows cols (settingsOf s) w₀ l₀ k),
+        );
         u-back = rw u (Laws.u-back binary64 rows cols (settingsOf s) w₀ l₀ k);
         v-back = rw v (Laws.v-back binary64 rows cols (settingsOf s) w₀ l₀ k);
         product = rw (u, v, values) (Laws.product binary64 rows cols (settingsOf s) w₀ l₀ k binary64);

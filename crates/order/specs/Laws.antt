@@ -5,23 +5,31 @@ use mathlib.Core.List.{List}
 use Prim.Native.Nat.{ℕ, _+_, _*_, _<_, _≤_}
 use native.Mathlib.Omega.{arith}
 use lib.Dec.{ltb}
-use lib.ListN.{length}
+use lib.ListN.{length, getD}
 use lib.Ieee.{Float, lt, eq}
 use Rattle.method.specs.Floats.{pick, magnitude}
 use Rattle.method.specs.Index.{row-in, few}
 use Rattle.method.specs.Order.{ahead, howMany}
 use Rattle.method.specs.Order.Places.{count-next}
-use Rattle.order.specs.Room.{Room}
+use Rattle.order.specs.Room.{Room, Within}
 
 -- entry i of the diagonal lies in b, and not far
-module _ (cols c : ℕ) (b : List Float) (r : Room cols c b) (i : ℕ) (h : i < c) where
+module _ {cols c : ℕ} {b : List Float} (r : Room cols c b) (i : ℕ) (h : i < c) where
   pub entry-in : i * cols + i < length b
   entry-in = omega (arith, row-in i c cols h, r .narrow, r .long)
 
   pub entry-few : i * cols + i ≤ 3072
   entry-few =
-      omega
-      (arith, row-in i c cols h, r .narrow, r .wide, few c cols (omega (arith, r .narrow, r .wide)) (omega (arith, r .wide)))
+      let most = few c cols (omega (arith, r .narrow, r .wide)) (omega (arith, r .wide)) in
+      omega (arith, row-in i c cols h, r .narrow, r .wide, most)
+
+-- and so does the entry at position k of a list of positions
+module _ {cols c : ℕ} {b : List Float} {p : List ℕ} (r : Room cols c b) (w : Within c p) (k : ℕ) (h : k < c) where
+  pub listed-in : getD p k 0 * cols + getD p k 0 < length b
+  listed-in = entry-in r (getD p k 0) (w .within k h)
+
+  pub listed-few : getD p k 0 * cols + getD p k 0 ≤ 3072
+  listed-few = entry-few r (getD p k 0) (w .within k h)
 
 -- which of two comes first: the larger, of equal ones the lower position, and else the other
 module _ (x y : Float) (i j : ℕ) where

@@ -87,7 +87,9 @@ module _ (rows cols : ℕ) (s : Settings) (w₀ : Work) (l₀ : List Float) (r :
         a′ ∙ accepted-outcome binary64 true rows cols (settingsOf s) w₀ (lent-none rows cols (settingsOf s) w₀ l₀ e .1)
 
     -- which it was where the run was made,
-    free : (r .refusal .number ≡ 0) ⊎ (12 ≤ r .refusal .number) → orderedRefusal rows cols (settingsOf s) w₀ l₀ .number ≡ 0
+    free :
+        (r .refusal .number ≡ 0) ⊎ (12 ≤ r .refusal .number) →
+        orderedRefusal rows cols (settingsOf s) w₀ l₀ .number ≡ 0
     free (inl z) = sorts rows cols (settingsOf s) w₀ l₀ binary64 (sym told-number ∙ z) .before
     free (inr high) = ordered-after rows cols (settingsOf s) w₀ l₀ binary64 (rw told-number at high)
 

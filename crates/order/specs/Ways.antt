@@ -60,6 +60,15 @@ within c d p fine long e =
       within = λ k h. rw (← getD-take c p k 0 h, e) (positions-first c d fine .within k h);
     }
 
+-- both, of the list that `positions` leaves
+pub moving :
+    (rows cols c : ℕ) (w : Work) (l : List Float) (p : List ℕ) → c ≡ card rows cols → Fits rows cols w l →
+    Finite c (diagonal cols (w .matrix)) → length p ≡ mostSize → take c p ≡ oldPositions c (diagonal cols (w .matrix)) →
+    Ready rows cols c (w .matrix) l × Within c p
+moving rows cols c w l p e f fine long o =
+    let r = ready rows cols c w l e f in
+    (r, within c (diagonal cols (w .matrix)) p fine (le-trans (r .few) (le-of-eq (sym long))) o)
+
 -- ---- a run's lists put in order
 
 module _ (rows cols c : ℕ) (report : Report) (w : Work) (l : List Float) (e : c ≡ card rows cols) {r : Refusal}

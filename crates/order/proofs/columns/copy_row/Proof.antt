@@ -23,8 +23,13 @@ loop-holds c = (omega arith, refl, repeated-none 0 _ _)
 loop-again : tie.Need-loop-again Inv-loop μ-loop
 loop-again c =
     let at-loop = c .before .before in
-    let at-start = at-loop .before in
-    (omega arith, simp length-set (at-loop .loop .inv .1), writes-more (λ k. k) (λ k. getD (at-start .args .a .now) (at-start .args .at + k) nan) (at-loop .loop .k) _ _ _ refl (at-loop .loop .inv .2))
+    let at-start = at-loop .before in (
+      omega arith,
+      simp length-set (at-loop .loop .inv .1),
+      writes-more (λ k. k)
+          (λ k. getD (at-start .args .a .now) (at-start .args .at + k) nan) (at-loop .loop .k) _ _ _ refl
+          (at-loop .loop .inv .2),
+    )
 
 returns : tie.Need-returns Inv-loop μ-loop
 returns c =
@@ -34,4 +39,6 @@ returns c =
 pub copy-row-spec : {M : Type 1} → statement M
 copy-row-spec =
     tie.close
-    (tie.spec Inv-loop μ-loop loop-holds (λ c. search needs) (λ c. search needs) (λ c. search needs) (λ c. search needs) (λ c. search needs) (λ c. search needs) (λ c. search needs) loop-again (λ c. search needs) returns)
+    (tie.spec Inv-loop μ-loop loop-holds (λ c. search needs) (λ c. search needs) (λ c. search needs)
+    (λ c. search needs) (λ c. search needs) (λ c. search needs) (λ c. search needs) loop-again (λ c. search needs)
+    returns)

@@ -23,22 +23,22 @@ loop-holds c = (omega arith, finite-none _)
 mul-at : tie.Need-mul-at Inv-loop μ-loop
 mul-at c =
     let at-start = c .before .before .before in
-    record { fits = omega (arith, entry-few (at-start .args .cols) (at-start .args .c) (at-start .args .b .now) (at-start .pre) (c .before .loop .i) (omega arith)) }
+    record { fits = omega (arith, entry-few (at-start .pre) (c .before .loop .i) (omega arith)) }
 
 add-at : tie.Need-add-at Inv-loop μ-loop
 add-at c =
     let at-start = c .before .before .before in
-    omega (arith, entry-few (at-start .args .cols) (at-start .args .c) (at-start .args .b .now) (at-start .pre) (c .before .loop .i) (omega arith))
+    omega (arith, entry-few (at-start .pre) (c .before .loop .i) (omega arith))
 
 mul-still-finite : tie.Need-mul-still-finite Inv-loop μ-loop
 mul-still-finite c =
     let at-start = c .before .before .before in
-    omega (arith, entry-few (at-start .args .cols) (at-start .args .c) (at-start .args .b .now) (at-start .pre) (c .before .loop .i) (omega arith))
+    omega (arith, entry-few (at-start .pre) (c .before .loop .i) (omega arith))
 
 shared-slice-read-still-finite : tie.Need-shared-slice-read-still-finite Inv-loop μ-loop
 shared-slice-read-still-finite c =
     let at-start = c .before .before .before .before in
-    omega (arith, entry-in (at-start .args .cols) (at-start .args .c) (at-start .args .b .now) (at-start .pre) (c .before .before .loop .i) (omega arith))
+    omega (arith, entry-in (at-start .pre) (c .before .before .loop .i) (omega arith))
 
 loop-again : tie.Need-loop-again Inv-loop μ-loop
 loop-again c =
@@ -53,4 +53,5 @@ returns c =
 pub all-finite-spec : {M : Type 1} → statement M
 all-finite-spec =
     tie.close
-    (tie.spec Inv-loop μ-loop loop-holds mul-at add-at mul-still-finite shared-slice-read-still-finite (λ c κs. search needs) (λ c. search needs) (λ c. search needs) loop-again returns)
+    (tie.spec Inv-loop μ-loop loop-holds mul-at add-at mul-still-finite shared-slice-read-still-finite
+    (λ c κs. search needs) (λ c. search needs) (λ c. search needs) loop-again returns)

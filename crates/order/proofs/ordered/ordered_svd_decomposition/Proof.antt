@@ -1,5 +1,5 @@
--- `ordered_svd_decomposition` meets its contract: refused for what is lent, refused by the call beneath, or put in order.
--- Assumes nothing.
+-- `ordered_svd_decomposition` meets its contract: refused for what is lent, refused by the call beneath, or put in
+-- order. Assumes nothing.
 use borrow.Author.Needs.{needs}
 use Rattle.method.specs.Work.{work}
 use Rattle.checks.specs.Values.{settingsOf}
@@ -13,7 +13,8 @@ put-in-order-requires c κs =
     let at-if1 = at-full .before .before .before .before in
     let at-lent-refusal = at-if1 .before .before in
     let at-start = at-lent-refusal .before .before .before .before .before .before .before .before .before in
-    way-fits (at-start .args .rows) (at-start .args .cols) (settingsOf (at-start .args .settings)) (work (at-start .args .b .now) (at-start .args .u .now) (at-start .args .v .now))
+    way-fits (at-start .args .rows) (at-start .args .cols) (settingsOf (at-start .args .settings))
+    (work (at-start .args .b .now) (at-start .args .u .now) (at-start .args .v .now))
     (at-start .args .list .now) (at-lent-refusal .lent-refusal .ensures)
     (at-if1 .if1 .left) _ _ (at-full .full-svd-decomposition .ensures)
 
@@ -22,7 +23,8 @@ returns c =
     let at-if1 = c .before in
     let at-lent-refusal = at-if1 .before .before in
     let at-start = at-lent-refusal .before .before .before .before .before .before .before .before .before in
-    way-lent (at-start .args .rows) (at-start .args .cols) (settingsOf (at-start .args .settings)) (work (at-start .args .b .now) (at-start .args .u .now) (at-start .args .v .now))
+    way-lent (at-start .args .rows) (at-start .args .cols) (settingsOf (at-start .args .settings))
+    (work (at-start .args .b .now) (at-start .args .u .now) (at-start .args .v .now))
     (at-start .args .list .now) (at-lent-refusal .lent-refusal .ensures)
     _ (at-if1 .if1 .taken) (c .refused .ensures)
 
@@ -32,7 +34,8 @@ returns-2 c =
     let at-if1 = at-full .before .before .before .before in
     let at-lent-refusal = at-if1 .before .before in
     let at-start = at-lent-refusal .before .before .before .before .before .before .before .before .before in
-    way-refused (at-start .args .rows) (at-start .args .cols) (settingsOf (at-start .args .settings)) (work (at-start .args .b .now) (at-start .args .u .now) (at-start .args .v .now))
+    way-refused (at-start .args .rows) (at-start .args .cols) (settingsOf (at-start .args .settings))
+    (work (at-start .args .b .now) (at-start .args .u .now) (at-start .args .v .now))
     (at-start .args .list .now) (at-lent-refusal .lent-refusal .ensures)
     (at-if1 .if1 .left) _ _ (at-full .full-svd-decomposition .ensures) (c .if2 .taken)
 
@@ -44,7 +47,8 @@ returns-3 c =
     let at-if1 = at-full .before .before .before .before in
     let at-lent-refusal = at-if1 .before .before in
     let at-start = at-lent-refusal .before .before .before .before .before .before .before .before .before in
-    way-ordered (at-start .args .rows) (at-start .args .cols) (settingsOf (at-start .args .settings)) (work (at-start .args .b .now) (at-start .args .u .now) (at-start .args .v .now))
+    way-ordered (at-start .args .rows) (at-start .args .cols) (settingsOf (at-start .args .settings))
+    (work (at-start .args .b .now) (at-start .args .u .now) (at-start .args .v .now))
     (at-start .args .list .now) (at-lent-refusal .lent-refusal .ensures)
     (at-if1 .if1 .left) _ _ (at-full .full-svd-decomposition .ensures) _ _ _ (at-if2 .if2 .left)
     (at-put .put-in-order .ensures)

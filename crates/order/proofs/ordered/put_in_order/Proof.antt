@@ -9,7 +9,8 @@ use Rattle.order.proofs.ordered.put_in_order.Tie as tie
 run-refusal-requires : tie.Need-run-refusal-requires
 run-refusal-requires c κs =
     let at-start = c .before .before .before .before .before in
-    ready _ _ _ (work (at-start .args .b .now) (at-start .args .u .now) (at-start .args .v .now)) _ (c .smaller-size .ensures) (at-start .pre) .room
+    ready _ _ _ (work (at-start .args .b .now) (at-start .args .u .now) (at-start .args .v .now)) _
+    (c .smaller-size .ensures) (at-start .pre) .room
 
 move-all-requires : tie.Need-move-all-requires
 move-all-requires c κs =
@@ -18,8 +19,10 @@ move-all-requires c κs =
     let at-smaller-size = at-run-refusal .before in
     let at-start = at-smaller-size .before .before .before .before .before in
     let finite =
-    fine (at-start .args .rows) (at-start .args .cols) _ (reportOf (at-start .args .report)) (work (at-start .args .b .now) (at-start .args .u .now) (at-start .args .v .now))
-    (at-start .args .list .now) (at-smaller-size .smaller-size .ensures) (at-run-refusal .run-refusal .ensures) (at-if1 .if1 .left) in
+    fine (at-start .args .rows) (at-start .args .cols) _ (reportOf (at-start .args .report))
+    (work (at-start .args .b .now) (at-start .args .u .now) (at-start .args .v .now))
+    (at-start .args .list .now) (at-smaller-size .smaller-size .ensures) (at-run-refusal .run-refusal .ensures)
+    (at-if1 .if1 .left) in
     (at-smaller-size .smaller-size .ensures, at-start .pre, finite)
 
 returns : tie.Need-returns
@@ -27,7 +30,8 @@ returns c =
     let at-run-refusal = c .before .before .before in
     let at-smaller-size = at-run-refusal .before in
     let at-start = at-smaller-size .before .before .before .before .before in
-    way-after (at-start .args .rows) (at-start .args .cols) _ (reportOf (at-start .args .report)) (work (at-start .args .b .now) (at-start .args .u .now) (at-start .args .v .now))
+    way-after (at-start .args .rows) (at-start .args .cols) _ (reportOf (at-start .args .report))
+    (work (at-start .args .b .now) (at-start .args .u .now) (at-start .args .v .now))
     (at-start .args .list .now) (at-smaller-size .smaller-size .ensures) (at-run-refusal .run-refusal .ensures) _
     (c .before .if1 .taken) (c .refused-after .ensures)
 
@@ -38,7 +42,8 @@ returns-2 c =
     let at-run-refusal = at-if1 .before .before in
     let at-smaller-size = at-run-refusal .before in
     let at-start = at-smaller-size .before .before .before .before .before in
-    way-put (at-start .args .rows) (at-start .args .cols) _ (reportOf (at-start .args .report)) (work (at-start .args .b .now) (at-start .args .u .now) (at-start .args .v .now))
+    way-put (at-start .args .rows) (at-start .args .cols) _ (reportOf (at-start .args .report))
+    (work (at-start .args .b .now) (at-start .args .u .now) (at-start .args .v .now))
     (at-start .args .list .now) (at-smaller-size .smaller-size .ensures) (at-run-refusal .run-refusal .ensures)
     (at-if1 .if1 .left) _ _ _ (at-move-all .move-all .ensures)
 
