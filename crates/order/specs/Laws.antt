@@ -31,6 +31,12 @@ module _ {cols c : ℕ} {b : List Float} {p : List ℕ} (r : Room cols c b) (w :
   pub listed-few : getD p k 0 * cols + getD p k 0 ≤ 3072
   listed-few = entry-few r (getD p k 0) (w .within k h)
 
+-- the first c entries of row i lie in a square table
+pub row-inside :
+    {i n c : ℕ} {a a₀ : List Float} →
+    length a ≡ length a₀ → length a₀ ≡ n * n → c ≤ n → i < n → i * n + c ≤ length a
+row-inside {i} {n} same square few h = omega (arith, row-in i n n h)
+
 -- which of two comes first: the larger, of equal ones the lower position, and else the other
 module _ (x y : Float) (i j : ℕ) where
   pub larger-first : lt y x ≡ true → true ≡ (lt y x || (eq x y && ltb i j))

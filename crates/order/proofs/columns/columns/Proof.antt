@@ -13,6 +13,7 @@ use Rattle.method.specs.Index.{row-in, few}
 use Rattle.method.specs.Writes.{length-writes}
 use Rattle.method.specs.Order.{diagonal, rowsMoved}
 use Rattle.method.specs.Order.Columns.{rows-none, row-step}
+use Rattle.order.specs.Laws.{row-inside}
 use Rattle.order.proofs.columns.columns.Statement.{statement}
 use Rattle.order.proofs.columns.columns.Tie as tie
 
@@ -28,8 +29,9 @@ abbrev μ-loop : tie.MeasureT-loop
 μ-loop a₀ n c p b cols signs w₀ i₀ a w i = n - i
 
 loop-holds : tie.Need-loop-holds Inv-loop μ-loop
-loop-holds c = let at-start =
-    c .before .before .before in (omega arith, refl, refl, sym (rows-none _ _ (at-start .pre .3) _ _ _))
+loop-holds c =
+    let at-start = c .before .before .before in
+    (omega arith, refl, refl, sym (rows-none _ _ (at-start .pre .3) _ _ _))
 
 mul-at : tie.Need-mul-at Inv-loop μ-loop
 mul-at c =
@@ -50,14 +52,7 @@ copy-row-requires : tie.Need-copy-row-requires Inv-loop μ-loop
 copy-row-requires c κs =
     let at-loop = c .before .before .before in
     let at-start = at-loop .before .before .before .before in (
-      omega (
-        arith,
-        at-loop .loop .inv .1,
-        at-start .pre .4,
-        at-start .pre .3,
-        row-in (at-loop .loop .i) (at-start .args .n)
-            (at-start .args .n) (omega arith),
-      ),
+      row-inside (at-loop .loop .inv .1) (at-start .pre .4) (at-start .pre .3) (omega arith),
       omega (arith, at-loop .loop .inv .2, at-start .pre .3, at-start .pre .2),
     )
 
@@ -70,14 +65,7 @@ write-row-requires c κs =
     let at-start = at-loop .before .before .before .before in (
       at-start .pre .0,
       at-start .pre .1,
-      omega (
-        arith,
-        at-loop .loop .inv .1,
-        at-start .pre .4,
-        at-start .pre .3,
-        row-in (at-loop .loop .i) (at-start .args .n)
-            (at-start .args .n) (omega arith),
-      ),
+      row-inside (at-loop .loop .inv .1) (at-start .pre .4) (at-start .pre .3) (omega arith),
       omega (
         arith,
         ap length (c .before .before .before .copy-row .ensures),
