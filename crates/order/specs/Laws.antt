@@ -33,8 +33,7 @@ module _ {cols c : ℕ} {b : List Float} {p : List ℕ} (r : Room cols c b) (w :
 
 -- the first c entries of row i lie in a square table
 pub row-inside :
-    {i n c : ℕ} {a a₀ : List Float} →
-    length a ≡ length a₀ → length a₀ ≡ n * n → c ≤ n → i < n → i * n + c ≤ length a
+    {i n c len len₀ : ℕ} → len ≡ len₀ → len₀ ≡ n * n → c ≤ n → i < n → i * n + c ≤ len
 row-inside {i} {n} same square few h = omega (arith, row-in i n n h)
 
 -- which of two comes first: the larger, of equal ones the lower position, and else the other
