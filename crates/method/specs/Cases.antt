@@ -52,7 +52,7 @@ ofReport r =
     let t = r .tally in
     r .refusal .number ∷ wordNumber (r .word) ∷ t .passes ∷ t .sweeps ∷ t .drops ∷ t .range ∷ []
 
-abbrev given : ℕ → ℕ → Float → Settings
+abbrev pub given : ℕ → ℕ → Float → Settings
 given limit credit floor =
     record { limit = limit; credit = credit; tolerance = defaultTolerance; absolute = defaultAbsolute; floor = floor }
 

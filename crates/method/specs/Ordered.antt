@@ -4,6 +4,7 @@
 pub mod Ways
 pub mod Numbers
 pub mod Laws
+pub mod Cases
 use mathlib.Core.Bool.{Bool, true, false, not, _&&_}
 use mathlib.Core.List.{List, [], _∷_, _++_}
 use Prim.Native.Nat.{ℕ}
