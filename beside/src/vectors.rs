@@ -230,6 +230,7 @@ pub fn entry(told: &mut Told, mut at: usize) -> Option<&mut f64> {
     }
     None
 }
+
 /// Runs with answers that are wrong on purpose in one place: each word of the report, its lowest and its highest bit; each
 /// entry of each list, likewise; every bit of one entry of each list; a NaN for a number and a number for a NaN. First of
 /// the plain and the accumulating call, then of the ordered one.
@@ -326,28 +327,29 @@ fn runs_wrong(wrong: &mut Vec<(Run, Told)>) {
         };
         [&mut run.matrix, u, v]
     }
-    let changes: [(Call, Change); 18] = [
-        (Call::Accumulating, |run| run.rows += 1),
-        (Call::Accumulating, |run| run.cols += 1),
-        (Call::Accumulating, |run| run.settings.limit = 0),
-        (Call::Accumulating, |run| run.settings.credit += 100),
-        (Call::Accumulating, |run| run.settings.tolerance = 0.25),
-        (Call::Accumulating, |run| run.settings.absolute = 0.25),
-        (Call::Accumulating, |run| run.settings.floor = 0.25),
-        (Call::Accumulating, |run| lists(run)[0][0] += 1.0),
-        (Call::Accumulating, |run| lists(run)[1][0] += 1.0),
-        (Call::Accumulating, |run| lists(run)[2][0] += 1.0),
-        (Call::Accumulating, |run| lists(run)[0].push(0.0)),
-        (Call::Accumulating, |run| lists(run)[1].push(0.0)),
-        (Call::Accumulating, |run| lists(run)[2].push(0.0)),
-        (Call::Accumulating, |run| _ = lists(run)[0].pop()),
-        (Call::Accumulating, |run| _ = lists(run)[1].pop()),
-        (Call::Accumulating, |run| _ = lists(run)[2].pop()),
-        (Call::Ordered, |run| run.values.push(0.0)),
-        (Call::Ordered, |run| _ = run.values.pop()),
+    let kept: [Change; 16] = [
+        |run| run.rows += 1,
+        |run| run.cols += 1,
+        |run| run.settings.limit = 0,
+        |run| run.settings.credit += 100,
+        |run| run.settings.tolerance = 0.25,
+        |run| run.settings.absolute = 0.25,
+        |run| run.settings.floor = 0.25,
+        |run| lists(run)[0][0] += 1.0,
+        |run| lists(run)[1][0] += 1.0,
+        |run| lists(run)[2][0] += 1.0,
+        |run| lists(run)[0].push(0.0),
+        |run| lists(run)[1].push(0.0),
+        |run| lists(run)[2].push(0.0),
+        |run| _ = lists(run)[0].pop(),
+        |run| _ = lists(run)[1].pop(),
+        |run| _ = lists(run)[2].pop(),
     ];
+    let listed: [Change; 2] = [|run| run.values.push(0.0), |run| _ = run.values.pop()];
+    let kept = kept.map(|change| (Call::Accumulating, change));
+    let listed = listed.map(|change| (Call::Ordered, change));
     let runs = stored();
-    for (call, change) in changes {
+    for (call, change) in kept.into_iter().chain(listed) {
         let changed = |right: &Run| {
             let mut run = Run {
                 call,

@@ -10,18 +10,21 @@ use crate::stored::read_answer;
 use crate::stored::read_head;
 use crate::stored::read_list;
 use crate::stored::report_agrees;
+use order::ordered::ordered_svd_decomposition;
 use svd::interface::full_svd_decomposition;
 use svd::interface::svd_decomposition;
 use svd::report::Report;
 ghost use mathlib.Core.Path.{_≡_};
 ghost use lib.ListN.{length};
 
-// What a run came to: whether it is wrong on purpose, whether it agrees, and what the library
-// answered. A wrong run agrees where not as many of its calls differ as are to.
+// What a run came to: whether it is wrong on purpose, whether it agrees, what the accumulating call
+// answered, or the plain one where that alone is made, and whether the ordered call put values in
+// order. A wrong run agrees where not as many of its calls differ as are to.
 pub(crate) struct Made {
     pub(crate) wrong: bool,
     pub(crate) agrees: bool,
     pub(crate) report: Report,
+    pub(crate) in_order: bool,
 }
 
 // What was seen where a run should be; what is malformed may be so on purpose.
@@ -37,32 +40,46 @@ struct Call {
     report: Report,
 }
 
-// Room for the longest list.
+// What the calls of a run but the ordered one came to: the accumulating one, or the plain one where
+// that alone is made, and whether all is as stored of the plain one beside it.
+struct Calls {
+    first: Call,
+    beside: bool,
+}
+
+// Room for the longest list, filled with what is never written among the values: a magnitude is not
+// below zero.
 fn blank() -> [f64; 2401]
     ensures { λ r. ⌜ 2401 ≡ length r ⌝ }
 {
-    [0.0; 2401]
+    [-1.0; 2401]
 }
 
 // How many of a run's calls differ.
-fn differing(first: bool, second: bool) -> u64 {
-    if first && second {
+fn differing(first: bool, second: bool, third: bool) -> u64 {
+    if first && second && third {
         return 0;
     }
-    if first || second {
+    if first && second || first && third || second && third {
         return 1;
     }
-    2
+    if first || second || third {
+        return 2;
+    }
+    3
 }
 
-// What a run came to of whose calls so many differ.
-fn judged(head: Head, differ: u64, report: Report) -> Made {
+// What a run came to, of whose ordered call these two are known.
+fn judged(head: Head, calls: Calls, ordered: bool, in_order: bool) -> Made {
+    let first = calls.first;
+    let report = first.report;
     let wrong = head.differ > 0;
-    let as_told = differ == head.differ;
+    let as_told = differing(first.agrees, calls.beside, ordered) == head.differ;
     Made {
         wrong,
         agrees: as_told != wrong,
         report,
+        in_order,
     }
 }
 
@@ -74,52 +91,75 @@ fn plain(b: &mut [f64], b2: &[f64], head: Head, answer: &Answer) -> Call {
     Call { agrees, report }
 }
 
-// Whether the plain call on a copy of b, in c, gives the stored report and leaves what b2 holds.
-fn copy_agrees(b: &[f64], c: &mut [f64], b2: &[f64], head: Head, answer: &Answer) -> bool
+// Whether the plain call on a copy of b, in c, gives the stored report and leaves what b2 holds. It
+// has no numbers 4 and 5: where one of them is stored, it is not made.
+fn plain_agrees(b: &[f64], c: &mut [f64], b2: &[f64], head: Head, answer: &Answer) -> bool
     requires { ⌜ length (now b) ≡ length (now c) ⌝ }
 {
+    let number = number_in(answer);
+    if number == 4 || number == 5 {
+        return true;
+    }
     copy(b, c);
     let call = plain(c, b2, head, answer);
     call.agrees
 }
 
-// Whether the plain call gives the stored report and matrix too. It has no numbers 4 and 5: where
-// one of them is stored, it is not made.
-fn plain_agrees(b: &[f64], b2: &[f64], head: Head, answer: &Answer) -> bool {
-    let number = number_in(answer);
-    if number == 4 || number == 5 {
-        return true;
-    }
-    let mut c = blank();
-    let n = b.len();
-    if n > 2401 {
-        return false;
-    }
-    copy_agrees(b, &mut c[..n], b2, head, answer)
-}
-
-// The calls of a run: the plain one alone, or beside it the accumulating one, which is to leave what
-// b2, u2 and v2 hold.
+// The calls of a run but the ordered one, on copies in c, cu and cv: the plain one alone, or beside it
+// the accumulating one, which is to leave what b2, u2 and v2 hold.
 fn calls(
-    b: &mut [f64],
-    u: &mut [f64],
-    v: &mut [f64],
+    b: &[f64],
+    u: &[f64],
+    v: &[f64],
+    c: &mut [f64],
+    cu: &mut [f64],
+    cv: &mut [f64],
     b2: &[f64],
     u2: &[f64],
     v2: &[f64],
     head: Head,
     answer: &Answer,
-) -> Made {
+) -> Calls
+    requires { ⌜ (length (now b) ≡ length (now c)) × (length (now u) ≡ length (now cu))
+        × (length (now v) ≡ length (now cv)) ⌝ }
+{
     if head.kept == 0 {
-        let call = plain(b, b2, head, answer);
-        let report = call.report;
-        return judged(head, differing(call.agrees, true), report);
+        copy(b, c);
+        let first = plain(c, b2, head, answer);
+        return Calls { first, beside: true };
     }
-    let beside = plain_agrees(b, b2, head, answer);
+    let beside = plain_agrees(b, c, b2, head, answer);
+    copy(b, c);
+    copy(u, cu);
+    copy(v, cv);
     let settings = head.settings;
-    let report = full_svd_decomposition(b, u, v, head.rows, head.cols, settings);
-    let agrees = report_agrees(report, answer) && same(b, b2) && same(u, u2) && same(v, v2);
-    judged(head, differing(agrees, beside), report)
+    let report = full_svd_decomposition(c, cu, cv, head.rows, head.cols, settings);
+    let agrees = report_agrees(report, answer) && same(c, b2) && same(cu, u2) && same(cv, v2);
+    let first = Call { agrees, report };
+    Calls { first, beside }
+}
+
+// The ordered call, which is to leave what b2, u2, v2 and values2 hold.
+fn ordered(
+    b: &mut [f64],
+    u: &mut [f64],
+    v: &mut [f64],
+    values: &mut [f64],
+    b2: &[f64],
+    u2: &[f64],
+    v2: &[f64],
+    values2: &[f64],
+    head: Head,
+    answer: &Answer,
+) -> Call {
+    let settings = head.settings;
+    let report = ordered_svd_decomposition(b, u, v, values, head.rows, head.cols, settings);
+    let agrees = report_agrees(report, answer)
+        && same(b, b2)
+        && same(u, u2)
+        && same(v, v2)
+        && same(values, values2);
+    Call { agrees, report }
 }
 
 // Reads what the lists are to be afterwards; of a refused call they are to be as they are. Whether
@@ -137,6 +177,34 @@ fn read_after(b2: &mut [f64], u2: &mut [f64], v2: &mut [f64], answer: &Answer) -
     read_list(v2)
 }
 
+// Makes the lists, which are what the accumulating call is to leave, what the ordered one is to leave
+// of b, u and v. Whether it is there.
+fn read_ordered(
+    b: &[f64],
+    u: &[f64],
+    v: &[f64],
+    b2: &mut [f64],
+    u2: &mut [f64],
+    v2: &mut [f64],
+    values2: &mut [f64],
+    answer: &Answer,
+) -> bool
+    requires { ⌜ (length (now b) ≡ length (now b2)) × (length (now u) ≡ length (now u2))
+        × (length (now v) ≡ length (now v2)) ⌝ }
+{
+    let number = number_in(answer);
+    if number == 0 {
+        return read_after(values2, u2, v2, answer);
+    }
+    if number == 12 || number == 13 {
+        return true;
+    }
+    copy(b, b2);
+    copy(u, u2);
+    copy(v, v2);
+    true
+}
+
 // Reads what the lists are; whether it is there.
 fn read_before(b: &mut [f64], u: &mut [f64], v: &mut [f64], head: Head) -> bool {
     if !read_list(b) {
@@ -145,16 +213,55 @@ fn read_before(b: &mut [f64], u: &mut [f64], v: &mut [f64], head: Head) -> bool 
     begin(u, v, head)
 }
 
+// The ordered call of a run, whose answer stands next. b, u and v hold the lists, b2, u2 and v2 what
+// the accumulating call is to leave, values and values2 what is never written.
+fn put_in_order(
+    b: &mut [f64],
+    u: &mut [f64],
+    v: &mut [f64],
+    values: &mut [f64],
+    b2: &mut [f64],
+    u2: &mut [f64],
+    v2: &mut [f64],
+    values2: &mut [f64],
+    head: Head,
+    calls: Calls,
+) -> Seen
+    requires { ⌜ (length (now b) ≡ length (now b2)) × (length (now u) ≡ length (now u2))
+        × (length (now v) ≡ length (now v2)) ⌝ }
+{
+    let mut answer = [0; 56];
+    if !read_answer(&mut answer) {
+        return Seen::Malformed(head.differ > 0);
+    }
+    if !read_ordered(b, u, v, b2, u2, v2, values2, &answer) {
+        return Seen::Malformed(head.differ > 0);
+    }
+    let call = ordered(b, u, v, values, b2, u2, v2, values2, head, &answer);
+    let report = call.report;
+    let in_order = report.refusal.number == 0;
+    Seen::Run(judged(head, calls, call.agrees, in_order))
+}
+
 // The run whose answer stands next: b, u and v hold the lists, b2, u2 and v2 copies of them.
 fn answered(
     b: &mut [f64],
     u: &mut [f64],
     v: &mut [f64],
+    values: &mut [f64],
     b2: &mut [f64],
     u2: &mut [f64],
     v2: &mut [f64],
+    values2: &mut [f64],
+    c: &mut [f64],
+    cu: &mut [f64],
+    cv: &mut [f64],
     head: Head,
-) -> Seen {
+) -> Seen
+    requires { ⌜ (length (now b) ≡ length (now b2)) × (length (now u) ≡ length (now u2))
+        × (length (now v) ≡ length (now v2)) × (length (now b) ≡ length (now c))
+        × (length (now u) ≡ length (now cu)) × (length (now v) ≡ length (now cv)) ⌝ }
+{
     let mut answer = [0; 56];
     if !read_answer(&mut answer) {
         return Seen::Malformed(head.differ > 0);
@@ -162,21 +269,31 @@ fn answered(
     if !read_after(b2, u2, v2, &answer) {
         return Seen::Malformed(head.differ > 0);
     }
-    Seen::Run(calls(b, u, v, b2, u2, v2, head, &answer))
+    let made = calls(b, u, v, c, cu, cv, b2, u2, v2, head, &answer);
+    if head.kept < 2 {
+        return Seen::Run(judged(head, made, true, false));
+    }
+    put_in_order(b, u, v, values, b2, u2, v2, values2, head, made)
 }
 
-// The run of this head, in lists that are as long as it says.
+// The run of this head, in lists that are as long as it says, and with room for copies.
 fn run_in(
     b: &mut [f64],
     u: &mut [f64],
     v: &mut [f64],
+    values: &mut [f64],
     b2: &mut [f64],
     u2: &mut [f64],
     v2: &mut [f64],
+    values2: &mut [f64],
+    c: &mut [f64],
+    cu: &mut [f64],
+    cv: &mut [f64],
     head: Head,
 ) -> Seen
     requires { ⌜ (length (now b) ≡ length (now b2)) × (length (now u) ≡ length (now u2))
-        × (length (now v) ≡ length (now v2)) ⌝ }
+        × (length (now v) ≡ length (now v2)) × (length (now b) ≡ length (now c))
+        × (length (now u) ≡ length (now cu)) × (length (now v) ≡ length (now cv)) ⌝ }
 {
     if !read_before(b, u, v, head) {
         return Seen::Malformed(head.differ > 0);
@@ -184,7 +301,7 @@ fn run_in(
     copy(b, b2);
     copy(u, u2);
     copy(v, v2);
-    answered(b, u, v, b2, u2, v2, head)
+    answered(b, u, v, values, b2, u2, v2, values2, c, cu, cv, head)
 }
 
 // The run of this head.
@@ -192,6 +309,7 @@ fn run_of(head: Head) -> Seen {
     let n = head.matrix;
     let nu = head.u;
     let nv = head.v;
+    let nw = head.values;
     if n > 2401 {
         return Seen::Malformed(head.differ > 0);
     }
@@ -201,19 +319,32 @@ fn run_of(head: Head) -> Seen {
     if nv > 2401 {
         return Seen::Malformed(head.differ > 0);
     }
+    if nw > 2401 {
+        return Seen::Malformed(head.differ > 0);
+    }
     let mut b = blank();
     let mut u = blank();
     let mut v = blank();
+    let mut values = blank();
     let mut b2 = blank();
     let mut u2 = blank();
     let mut v2 = blank();
+    let mut values2 = blank();
+    let mut c = blank();
+    let mut cu = blank();
+    let mut cv = blank();
     run_in(
         &mut b[..n],
         &mut u[..nu],
         &mut v[..nv],
+        &mut values[..nw],
         &mut b2[..n],
         &mut u2[..nu],
         &mut v2[..nv],
+        &mut values2[..nw],
+        &mut c[..n],
+        &mut cu[..nu],
+        &mut cv[..nv],
         head,
     )
 }
