@@ -333,9 +333,9 @@ fn simpler(run: &Run) -> Vec<Run> {
             with(&|run| run.call = call);
         }
     }
-    let list = unwritten(run.rows.min(run.cols).min(48));
-    if !untouched(&run.values, &list) {
-        with(&|run| run.values = list.clone());
+    let blank = unwritten(run.rows.min(run.cols).min(48));
+    if !untouched(&run.values, &blank) {
+        with(&|run| run.values = blank.clone());
     }
     if sized && matches!(run.start, Start::Given(..)) {
         with(&|run| run.start = Start::Identity);
@@ -366,6 +366,29 @@ fn simpler(run: &Run) -> Vec<Run> {
             {
                 with(&|run| run.matrix[at] = simple);
             }
+        }
+    }
+    if whole {
+        // All at once: nothing off the diagonal, and every entry of one value made 1.
+        let off = |at: usize| at / run.cols != at % run.cols;
+        let entry = |(at, &value): (usize, &f64)| if off(at) { 0.0 } else { value };
+        let alone: Vec<f64> = run.matrix.iter().enumerate().map(entry).collect();
+        if !untouched(&run.matrix, &alone) {
+            with(&|run| run.matrix = alone.clone());
+        }
+        for one in run
+            .matrix
+            .iter()
+            .filter(|&&value| value.abs() > 0.0 && value != 1.0)
+        {
+            let entry = |value: &f64| {
+                if untouched(&[*value], &[*one]) {
+                    1.0
+                } else {
+                    *value
+                }
+            };
+            with(&|run| run.matrix = run.matrix.iter().map(entry).collect());
         }
     }
     let mut smaller = Vec::new();
