@@ -42,7 +42,7 @@ struct Call {
 
 // What the calls of a run but the ordered one came to: the accumulating one, or the plain one where
 // that alone is made, and whether all is as stored of the plain one beside it.
-struct Calls {
+struct Both {
     first: Call,
     beside: bool,
 }
@@ -70,17 +70,27 @@ fn differing(first: bool, second: bool, third: bool) -> u64 {
 }
 
 // What a run came to, of whose ordered call these two are known.
-fn judged(head: Head, calls: Calls, ordered: bool, in_order: bool) -> Made {
-    let first = calls.first;
+fn judged(head: Head, both: Both, ordered: bool, in_order: bool) -> Made {
+    let first = both.first;
     let report = first.report;
     let wrong = head.differ > 0;
-    let as_told = differing(first.agrees, calls.beside, ordered) == head.differ;
+    let as_told = differing(first.agrees, both.beside, ordered) == head.differ;
     Made {
         wrong,
         agrees: as_told != wrong,
         report,
         in_order,
     }
+}
+
+// Copies b, u and v onto lists that are as long.
+fn copy_lists(b: &[f64], u: &[f64], v: &[f64], c: &mut [f64], cu: &mut [f64], cv: &mut [f64])
+    requires { ⌜ (length (now b) ≡ length (now c)) × (length (now u) ≡ length (now cu))
+        × (length (now v) ≡ length (now cv)) ⌝ }
+{
+    copy(b, c);
+    copy(u, cu);
+    copy(v, cv);
 }
 
 // The plain call on b, which is to leave what b2 holds.
@@ -105,38 +115,21 @@ fn plain_agrees(b: &[f64], c: &mut [f64], b2: &[f64], head: Head, answer: &Answe
     call.agrees
 }
 
-// The calls of a run but the ordered one, on copies in c, cu and cv: the plain one alone, or beside it
-// the accumulating one, which is to leave what b2, u2 and v2 hold.
-fn calls(
-    b: &[f64],
-    u: &[f64],
-    v: &[f64],
-    c: &mut [f64],
-    cu: &mut [f64],
-    cv: &mut [f64],
+// The accumulating call, which is to leave what b2, u2 and v2 hold.
+fn full(
+    b: &mut [f64],
+    u: &mut [f64],
+    v: &mut [f64],
     b2: &[f64],
     u2: &[f64],
     v2: &[f64],
     head: Head,
     answer: &Answer,
-) -> Calls
-    requires { ⌜ (length (now b) ≡ length (now c)) × (length (now u) ≡ length (now cu))
-        × (length (now v) ≡ length (now cv)) ⌝ }
-{
-    if head.kept == 0 {
-        copy(b, c);
-        let first = plain(c, b2, head, answer);
-        return Calls { first, beside: true };
-    }
-    let beside = plain_agrees(b, c, b2, head, answer);
-    copy(b, c);
-    copy(u, cu);
-    copy(v, cv);
+) -> Call {
     let settings = head.settings;
-    let report = full_svd_decomposition(c, cu, cv, head.rows, head.cols, settings);
-    let agrees = report_agrees(report, answer) && same(c, b2) && same(cu, u2) && same(cv, v2);
-    let first = Call { agrees, report };
-    Calls { first, beside }
+    let report = full_svd_decomposition(b, u, v, head.rows, head.cols, settings);
+    let agrees = report_agrees(report, answer) && same(b, b2) && same(u, u2) && same(v, v2);
+    Call { agrees, report }
 }
 
 // The ordered call, which is to leave what b2, u2, v2 and values2 hold.
@@ -160,6 +153,75 @@ fn ordered(
         && same(v, v2)
         && same(values, values2);
     Call { agrees, report }
+}
+
+// The accumulating call on copies of b, u and v, in c, cu and cv.
+fn full_of(
+    b: &[f64],
+    u: &[f64],
+    v: &[f64],
+    c: &mut [f64],
+    cu: &mut [f64],
+    cv: &mut [f64],
+    b2: &[f64],
+    u2: &[f64],
+    v2: &[f64],
+    head: Head,
+    answer: &Answer,
+) -> Call
+    requires { ⌜ (length (now b) ≡ length (now c)) × (length (now u) ≡ length (now cu))
+        × (length (now v) ≡ length (now cv)) ⌝ }
+{
+    copy_lists(b, u, v, c, cu, cv);
+    full(c, cu, cv, b2, u2, v2, head, answer)
+}
+
+// The calls of a run but the ordered one, on copies of b, u and v: the plain one alone, or beside it
+// the accumulating one, which is to leave what b2, u2 and v2 hold.
+fn calls(
+    b: &[f64],
+    u: &[f64],
+    v: &[f64],
+    c: &mut [f64],
+    cu: &mut [f64],
+    cv: &mut [f64],
+    b2: &[f64],
+    u2: &[f64],
+    v2: &[f64],
+    head: Head,
+    answer: &Answer,
+) -> Both
+    requires { ⌜ (length (now b) ≡ length (now c)) × (length (now u) ≡ length (now cu))
+        × (length (now v) ≡ length (now cv)) ⌝ }
+{
+    if head.kept == 0 {
+        copy(b, c);
+        let first = plain(c, b2, head, answer);
+        return Both { first, beside: true };
+    }
+    let beside = plain_agrees(b, c, b2, head, answer);
+    let first = full_of(b, u, v, c, cu, cv, b2, u2, v2, head, answer);
+    Both { first, beside }
+}
+
+// What a run came to whose ordered call is to leave what b2, u2, v2 and values2 hold.
+fn put_in_order(
+    b: &mut [f64],
+    u: &mut [f64],
+    v: &mut [f64],
+    values: &mut [f64],
+    b2: &[f64],
+    u2: &[f64],
+    v2: &[f64],
+    values2: &[f64],
+    head: Head,
+    both: Both,
+    answer: &Answer,
+) -> Made {
+    let call = ordered(b, u, v, values, b2, u2, v2, values2, head, answer);
+    let report = call.report;
+    let in_order = report.refusal.number == 0;
+    judged(head, both, call.agrees, in_order)
 }
 
 // Reads what the lists are to be afterwards; of a refused call they are to be as they are. Whether
@@ -199,9 +261,7 @@ fn read_ordered(
     if number == 12 || number == 13 {
         return true;
     }
-    copy(b, b2);
-    copy(u, u2);
-    copy(v, v2);
+    copy_lists(b, u, v, b2, u2, v2);
     true
 }
 
@@ -213,9 +273,8 @@ fn read_before(b: &mut [f64], u: &mut [f64], v: &mut [f64], head: Head) -> bool 
     begin(u, v, head)
 }
 
-// The ordered call of a run, whose answer stands next. b, u and v hold the lists, b2, u2 and v2 what
-// the accumulating call is to leave, values and values2 what is never written.
-fn put_in_order(
+// The run of which all but the ordered call is known, and of that this answer.
+fn ordered_answered(
     b: &mut [f64],
     u: &mut [f64],
     v: &mut [f64],
@@ -225,7 +284,30 @@ fn put_in_order(
     v2: &mut [f64],
     values2: &mut [f64],
     head: Head,
-    calls: Calls,
+    both: Both,
+    answer: &Answer,
+) -> Seen
+    requires { ⌜ (length (now b) ≡ length (now b2)) × (length (now u) ≡ length (now u2))
+        × (length (now v) ≡ length (now v2)) ⌝ }
+{
+    if !read_ordered(b, u, v, b2, u2, v2, values2, answer) {
+        return Seen::Malformed(head.differ > 0);
+    }
+    Seen::Run(put_in_order(b, u, v, values, b2, u2, v2, values2, head, both, answer))
+}
+
+// The same, and the answer stands next.
+fn ordered_next(
+    b: &mut [f64],
+    u: &mut [f64],
+    v: &mut [f64],
+    values: &mut [f64],
+    b2: &mut [f64],
+    u2: &mut [f64],
+    v2: &mut [f64],
+    values2: &mut [f64],
+    head: Head,
+    both: Both,
 ) -> Seen
     requires { ⌜ (length (now b) ≡ length (now b2)) × (length (now u) ≡ length (now u2))
         × (length (now v) ≡ length (now v2)) ⌝ }
@@ -234,13 +316,45 @@ fn put_in_order(
     if !read_answer(&mut answer) {
         return Seen::Malformed(head.differ > 0);
     }
-    if !read_ordered(b, u, v, b2, u2, v2, values2, &answer) {
+    ordered_answered(b, u, v, values, b2, u2, v2, values2, head, both, &answer)
+}
+
+// The run whose first answer this is: b, u and v hold the lists, b2, u2 and v2 what they are to be.
+fn replayed(
+    b: &mut [f64],
+    u: &mut [f64],
+    v: &mut [f64],
+    values: &mut [f64],
+    b2: &mut [f64],
+    u2: &mut [f64],
+    v2: &mut [f64],
+    values2: &mut [f64],
+    head: Head,
+    answer: &Answer,
+) -> Seen
+    requires { ⌜ (length (now b) ≡ length (now b2)) × (length (now u) ≡ length (now u2))
+        × (length (now v) ≡ length (now v2)) ⌝ }
+{
+    let n = b.len();
+    let nu = u.len();
+    let nv = v.len();
+    if n > 2401 {
         return Seen::Malformed(head.differ > 0);
     }
-    let call = ordered(b, u, v, values, b2, u2, v2, values2, head, &answer);
-    let report = call.report;
-    let in_order = report.refusal.number == 0;
-    Seen::Run(judged(head, calls, call.agrees, in_order))
+    if nu > 2401 {
+        return Seen::Malformed(head.differ > 0);
+    }
+    if nv > 2401 {
+        return Seen::Malformed(head.differ > 0);
+    }
+    let mut c = blank();
+    let mut cu = blank();
+    let mut cv = blank();
+    let both = calls(b, u, v, &mut c[..n], &mut cu[..nu], &mut cv[..nv], b2, u2, v2, head, answer);
+    if head.kept < 2 {
+        return Seen::Run(judged(head, both, true, false));
+    }
+    ordered_next(b, u, v, values, b2, u2, v2, values2, head, both)
 }
 
 // The run whose answer stands next: b, u and v hold the lists, b2, u2 and v2 copies of them.
@@ -253,14 +367,10 @@ fn answered(
     u2: &mut [f64],
     v2: &mut [f64],
     values2: &mut [f64],
-    c: &mut [f64],
-    cu: &mut [f64],
-    cv: &mut [f64],
     head: Head,
 ) -> Seen
     requires { ⌜ (length (now b) ≡ length (now b2)) × (length (now u) ≡ length (now u2))
-        × (length (now v) ≡ length (now v2)) × (length (now b) ≡ length (now c))
-        × (length (now u) ≡ length (now cu)) × (length (now v) ≡ length (now cv)) ⌝ }
+        × (length (now v) ≡ length (now v2)) ⌝ }
 {
     let mut answer = [0; 56];
     if !read_answer(&mut answer) {
@@ -269,14 +379,10 @@ fn answered(
     if !read_after(b2, u2, v2, &answer) {
         return Seen::Malformed(head.differ > 0);
     }
-    let made = calls(b, u, v, c, cu, cv, b2, u2, v2, head, &answer);
-    if head.kept < 2 {
-        return Seen::Run(judged(head, made, true, false));
-    }
-    put_in_order(b, u, v, values, b2, u2, v2, values2, head, made)
+    replayed(b, u, v, values, b2, u2, v2, values2, head, &answer)
 }
 
-// The run of this head, in lists that are as long as it says, and with room for copies.
+// The run of this head, in lists that are as long as it says.
 fn run_in(
     b: &mut [f64],
     u: &mut [f64],
@@ -286,22 +392,16 @@ fn run_in(
     u2: &mut [f64],
     v2: &mut [f64],
     values2: &mut [f64],
-    c: &mut [f64],
-    cu: &mut [f64],
-    cv: &mut [f64],
     head: Head,
 ) -> Seen
     requires { ⌜ (length (now b) ≡ length (now b2)) × (length (now u) ≡ length (now u2))
-        × (length (now v) ≡ length (now v2)) × (length (now b) ≡ length (now c))
-        × (length (now u) ≡ length (now cu)) × (length (now v) ≡ length (now cv)) ⌝ }
+        × (length (now v) ≡ length (now v2)) ⌝ }
 {
     if !read_before(b, u, v, head) {
         return Seen::Malformed(head.differ > 0);
     }
-    copy(b, b2);
-    copy(u, u2);
-    copy(v, v2);
-    answered(b, u, v, values, b2, u2, v2, values2, c, cu, cv, head)
+    copy_lists(b, u, v, b2, u2, v2);
+    answered(b, u, v, values, b2, u2, v2, values2, head)
 }
 
 // The run of this head.
@@ -330,9 +430,6 @@ fn run_of(head: Head) -> Seen {
     let mut u2 = blank();
     let mut v2 = blank();
     let mut values2 = blank();
-    let mut c = blank();
-    let mut cu = blank();
-    let mut cv = blank();
     run_in(
         &mut b[..n],
         &mut u[..nu],
@@ -342,9 +439,6 @@ fn run_of(head: Head) -> Seen {
         &mut u2[..nu],
         &mut v2[..nv],
         &mut values2[..nw],
-        &mut c[..n],
-        &mut cu[..nu],
-        &mut cv[..nv],
         head,
     )
 }
