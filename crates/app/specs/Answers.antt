@@ -10,6 +10,7 @@ use Rattle.method.specs.Root.{squareRoot}
 use Rattle.method.specs.Fill.{filled, fillOutcome}
 use Rattle.method.specs.Defaults.{defaults}
 use Rattle.method.specs.Outcome.{Outcome, outcomeOf, fullOutcome, plainOutcome}
+use Rattle.method.specs.Ordered.{Ordered, orderedOf, orderedOutcome}
 use Rattle.method.specs.Settings.{Settings}
 use Rattle.float.specs.Root.{RootIs}
 use Rattle.float.specs.Answers.{OneAnswer, equated-one}
@@ -17,13 +18,20 @@ use Rattle.factors.specs.Answers as Factors
 use Rattle.app.specs.declared.Answer.{Answer}
 use Rattle.app.specs.declared.Choice.{Choice}
 use Rattle.app.specs.declared.Part.{Part}
-use Rattle.app.specs.Values.{answerOf, Answered, answered, told, chosen, ofChoice, layout}
+use Rattle.app.specs.Values.{answerOf, Answered, answered, told, Listed, listed, toldInOrder}
+use Rattle.app.specs.Values.{chosen, ofChoice, layout}
 use Rattle.app.specs.Row.{partOf}
 
 -- the report of the call beneath, told
 pub told-of :
     (r : Report) (a : Answer) (w : Work) (o : Outcome) → a ≡ answerOf r → outcomeOf r w ≡ o → answered a w ≡ told o
 told-of r a w o e h = ap (λ (x : Answer). answered x w) e ∙ ap told h
+
+-- and of a call in order
+pub told-in-order :
+    (r : Report) (a : Answer) (w : Work) (l : List Float) (o : Ordered) →
+    a ≡ answerOf r → orderedOf (outcomeOf r w) l ≡ o → listed (answered a w) l ≡ toldInOrder o
+told-in-order r a w l o e h = ap (λ (x : Answer). listed (answered x w) l) e ∙ ap toldInOrder h
 
 -- what is told of one outcome is one answer and the same lists
 told-one :
@@ -32,16 +40,21 @@ told-one o r r′ w w′ e e′ =
     let d = e ∙ sym e′ in
     (ap (λ (x : Answered). x .answer) d, ap (λ (x : Answered). x .held) d)
 
--- ---- the two calls
+-- ---- the three calls
 
 module _ (rows cols limit credit : ℕ) (tolerance absolute floor : Float) where
-  -- what is told of the table b₀ alone, and of b₀, u₀ and v₀
+  -- what is told of the table b₀ alone, of b₀, u₀ and v₀, and with the list l₀
   abbrev plainTold : List Float → Answered
   plainTold b₀ = told (plainOutcome binary64 rows cols (chosen limit credit tolerance absolute floor) b₀)
 
   abbrev fullTold : List Float → List Float → List Float → Answered
   fullTold b₀ u₀ v₀ =
       told (fullOutcome binary64 rows cols (chosen limit credit tolerance absolute floor) (work b₀ u₀ v₀))
+
+  abbrev orderedTold : List Float → List Float → List Float → List Float → Listed
+  orderedTold b₀ u₀ v₀ l₀ =
+      toldInOrder
+      (orderedOutcome binary64 rows cols (chosen limit credit tolerance absolute floor) (work b₀ u₀ v₀) l₀)
 
   -- `merotunki_svd`
   pub svd-one :
@@ -60,6 +73,23 @@ module _ (rows cols limit credit : ℕ) (tolerance absolute floor : Float) where
       let one = told-one (fullTold b₀ u₀ v₀) r r′ (work b u v) (work b′ u′ v′) e e′ in
       let held = one .1 in
       (one .0, ap (λ (w : Work). w .matrix) held, ap (λ (w : Work). w .u) held, ap (λ (w : Work). w .v) held)
+
+  -- `merotunki_ordered_svd`
+  pub ordered-svd-one :
+      (b₀ u₀ v₀ l₀ : List Float) (r r′ : Answer) (b b′ u u′ v v′ l l′ : List Float) →
+      listed (answered r (work b u v)) l ≡ orderedTold b₀ u₀ v₀ l₀ →
+      listed (answered r′ (work b′ u′ v′)) l′ ≡ orderedTold b₀ u₀ v₀ l₀ →
+      (r ≡ r′) × (b ≡ b′) × (u ≡ u′) × (v ≡ v′) × (l ≡ l′)
+  ordered-svd-one b₀ u₀ v₀ l₀ r r′ b b′ u u′ v v′ l l′ e e′ =
+      let told : Listed → Answered = λ x. x .answered in
+      let one = told-one (orderedTold b₀ u₀ v₀ l₀ .answered) r r′ (work b u v) (work b′ u′ v′) (ap told e) (ap told e′) in
+      let held = one .1 in (
+        one .0,
+        ap (λ (w : Work). w .matrix) held,
+        ap (λ (w : Work). w .u) held,
+        ap (λ (w : Work). w .v) held,
+        ap (λ (x : Listed). x .values) (e ∙ sym e′),
+      )
 
 -- ---- the others
 

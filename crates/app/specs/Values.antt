@@ -1,10 +1,12 @@
 -- The method's answers as the structs that cross the border. Definitions only.
+use mathlib.Core.List.{List}
 use Prim.Native.Nat.{ℕ}
 use lib.Ieee.{Float}
 use Rattle.method.specs.Work.{Work}
 use Rattle.method.specs.Settings.{Settings}
 use Rattle.method.specs.Report as Report
 use Rattle.method.specs.Outcome.{Outcome}
+use Rattle.method.specs.Ordered.{Ordered}
 use Rattle.app.specs.declared.Answer.{Answer}
 use Rattle.app.specs.declared.Choice.{Choice}
 
@@ -32,6 +34,18 @@ answered a w = record { answer = a; held = w }
 -- what is told of an outcome
 abbrev pub told : Outcome → Answered
 told o = answered (answerOf (o .report)) (o .held)
+
+-- the same with the lent list of values
+pub record Listed : Type 0 where
+  pub answered : Answered
+  pub values : List Float
+
+abbrev pub listed : Answered → List Float → Listed
+listed a l = record { answered = a; values = l }
+
+-- what is told of an outcome in order
+abbrev pub toldInOrder : Ordered → Listed
+toldInOrder o = listed (told (o .run)) (o .values)
 
 -- five settings
 abbrev pub chosen : ℕ → ℕ → Float → Float → Float → Settings

@@ -1,10 +1,11 @@
 // What an app links: the calls beneath under plain C names. A lent slice is a pointer and a length,
 // one after the other. Each promise is that of the call beneath it: nothing is asked of the caller
-// but that the pointers are good, what is unfit is refused by number, and a refused call writes
-// nothing.
+// but that the pointers are good, what is unfit is refused by number, and a call that is refused before
+// its run writes nothing.
 use checks::settings::Settings;
 use factors::identity::identity_flat;
 use factors::view::row_view;
+use order::ordered::ordered_svd_decomposition;
 use svd::interface::full_svd_decomposition;
 use svd::interface::svd_decomposition;
 use svd::report::Report;
@@ -16,13 +17,15 @@ ghost use Rattle.method.specs.Work.{work};
 ghost use Rattle.method.specs.Defaults.{defaults};
 ghost use Rattle.method.specs.Fill.{filled, fillOutcome};
 ghost use Rattle.method.specs.Outcome.{fullOutcome, plainOutcome};
+ghost use Rattle.method.specs.Ordered.{orderedOutcome};
 ghost use Rattle.float.specs.Root.{RootIs};
 ghost use Rattle.checks.specs.Values.{settingsOf};
 ghost use Rattle.svd.specs.Values.{reportOf};
-ghost use Rattle.app.specs.Values.{answerOf, answered, told, chosen, ofChoice, layout};
+ghost use Rattle.app.specs.Values.{answerOf, answered, told, listed, toldInOrder};
+ghost use Rattle.app.specs.Values.{chosen, ofChoice, layout};
 ghost use Rattle.app.specs.Row.{partOf};
 
-// What a call answers. The word is 0 in a refusal, 1 where the table settled and 2 where the walk
+// What a call answers. The word is 0 in a refusal before the run, 1 where the table settled and 2 where the walk
 // stopped at its limit.
 #[repr(C)]
 pub struct Answer {
@@ -122,6 +125,33 @@ pub extern "C" fn merotunki_full_svd(
 {
     let settings = choose(limit, credit, tolerance, absolute, floor);
     let report = full_svd_decomposition(matrix, u, v, rows, cols, settings);
+    tell(report)
+}
+
+// The split with U and V kept, and its values in a list, largest first; the columns of U and V move with
+// them, and the sign of a value goes to its column of U. 12 and 13 come after the run: they leave the
+// table, U and V as the run has them, and the list as it was.
+#[no_mangle]
+pub extern "C" fn merotunki_ordered_svd(
+    matrix: &mut [f64],
+    u: &mut [f64],
+    v: &mut [f64],
+    values: &mut [f64],
+    rows: usize,
+    cols: usize,
+    limit: usize,
+    credit: usize,
+    tolerance: f64,
+    absolute: f64,
+    floor: f64,
+) -> Answer
+    ensures { λ r. ⌜ listed (answered r (work (now (matrix .exit)) (now (u .exit)) (now (v .exit))))
+        (now (values .exit))
+        ≡ toldInOrder (orderedOutcome binary64 rows cols (chosen limit credit tolerance absolute floor)
+        (work (now (matrix .entry)) (now (u .entry)) (now (v .entry))) (now (values .entry))) ⌝ }
+{
+    let settings = choose(limit, credit, tolerance, absolute, floor);
+    let report = ordered_svd_decomposition(matrix, u, v, values, rows, cols, settings);
     tell(report)
 }
 

@@ -1,13 +1,17 @@
--- Any two answers that the promise of `first_refusal` or of `Settings::new` allows are equal: these are the public
--- functions. Assumes nothing.
+-- Any two answers that the promise of a public function allows are equal: `first_refusal`, `lent_refusal`,
+-- `smaller_size`, `Settings::new`. Assumes nothing.
 use mathlib.Core.Path.{_≡_, sym, ap, _∙_}
 use mathlib.Core.Bool.{Bool}
+use mathlib.Core.List.{List}
+use lib.Ieee.{Float}
 use Prim.Native.Nat.{ℕ}
 use Rattle.method.specs.Work.{Work}
 use Rattle.method.specs.Defaults.{defaults}
 use Rattle.method.specs.Settings as Method
 use Rattle.method.specs.Checks as Checks
-use Rattle.method.specs.Checks.{refusalOf}
+use Rattle.method.specs.Checks.{firstOf, refusalOf}
+use Rattle.method.specs.Outcome.{card}
+use Rattle.method.specs.Ordered.{lentChecks}
 use Rattle.checks.specs.declared.settings.Settings.{Settings}
 use Rattle.checks.specs.declared.refusal.Refusal.{Refusal}
 use Rattle.checks.specs.Values.{settingsOf, refusalIn}
@@ -32,6 +36,16 @@ pub refusal-one :
     refusalIn r ≡ refusalOf kept rows cols (settingsOf s) w →
     refusalIn r′ ≡ refusalOf kept rows cols (settingsOf s) w → r ≡ r′
 refusal-one kept rows cols s w r r′ e e′ = ap fromRefusal (e ∙ sym e′)
+
+-- `lent_refusal`: number and place
+pub lent-refusal-one :
+    (rows cols : ℕ) (w : Work) (l : List Float) (r r′ : Refusal) →
+    refusalIn r ≡ firstOf (lentChecks rows cols w l) → refusalIn r′ ≡ firstOf (lentChecks rows cols w l) → r ≡ r′
+lent-refusal-one rows cols w l r r′ e e′ = ap fromRefusal (e ∙ sym e′)
+
+-- `smaller_size`
+pub smaller-size-one : (rows cols r r′ : ℕ) → r ≡ card rows cols → r′ ≡ card rows cols → r ≡ r′
+smaller-size-one rows cols r r′ e e′ = e ∙ sym e′
 
 -- `Settings::new`: the five default settings
 pub settings-one : (s s′ : Settings) → settingsOf s ≡ defaults → settingsOf s′ ≡ defaults → s ≡ s′

@@ -1,4 +1,5 @@
-// The first refusal that applies to a call, looked for before any number is touched.
+// The first refusal that applies to a call, looked for before any number is touched; and that of what
+// the ordered call is lent.
 ghost use mathlib.Core.Path.{_≡_};
 ghost use mathlib.Core.Bool.{true, not, _&&_, _||_};
 ghost use lib.Dec.{eqb, ltb};
@@ -6,12 +7,14 @@ ghost use Rattle.method.specs.Work.{work};
 ghost use Rattle.method.specs.Settings.{mostSize, mostLimit, mostCredit};
 ghost use Rattle.method.specs.Checks.{boundFit, floorFit, firstOf, refusal, refusalOf};
 ghost use Rattle.method.specs.Checks.{sizeChecks, lengthChecks, settingChecks, readingChecks};
+ghost use Rattle.method.specs.Ordered.{listChecks, lentChecks};
 ghost use Prim.Native.Nat.{_*_, _≤_};
 ghost use lib.ListN.{length};
 ghost use Rattle.checks.specs.Values.{settingsOf, refusalIn};
 use crate::search::first_bad;
-use crate::search::is_finite;
 use crate::settings::Settings;
+use crate::sizes::smaller_size;
+use float::is_finite;
 
 // The most rows and the most columns of a table: `mostSize` of method.
 const MOST_SIZE: usize = 48;
@@ -162,4 +165,39 @@ pub fn first_refusal(
         return of_settings;
     }
     reading_refusal(b, rows, cols)
+}
+
+// The list of the ordered call has as many entries as the smaller of rows and columns.
+fn list_refusal(list: &[f64], rows: usize, cols: usize) -> Refusal
+    ensures { λ r. ⌜ refusalIn r ≡ firstOf (listChecks rows cols (now (list .entry))) ⌝ }
+{
+    let whole = smaller_size(rows, cols);
+    if wrong_length(true, list.len(), whole) {
+        return refuse(11, 0);
+    }
+    refuse(0, 0)
+}
+
+// The first refusal that applies to what the ordered call is lent: of the sizes, of the lengths, of
+// the list. What it refuses besides it refuses as the accumulating call does.
+pub fn lent_refusal(
+    b: &[f64],
+    u: &[f64],
+    v: &[f64],
+    list: &[f64],
+    rows: usize,
+    cols: usize,
+) -> Refusal
+    ensures { λ r. ⌜ refusalIn r
+        ≡ firstOf (lentChecks rows cols (work (now (b .entry)) (now (u .entry)) (now (v .entry))) (now (list .entry))) ⌝ }
+{
+    let of_sizes = size_refusal(rows, cols);
+    if of_sizes.number != 0 {
+        return of_sizes;
+    }
+    let of_lengths = length_refusal(b, u, v, true, rows, cols);
+    if of_lengths.number != 0 {
+        return of_lengths;
+    }
+    list_refusal(list, rows, cols)
 }

@@ -2,17 +2,9 @@
 ghost use mathlib.Core.Path.{_≡_};
 ghost use Prim.Native.Nat.{_*_, _≤_};
 ghost use lib.ListN.{length};
-ghost use lib.Ieee.Scale.{finite};
 ghost use Rattle.method.specs.Settings.{mostSize};
 ghost use Rattle.method.specs.Checks.{firstBad};
-
-// Whether x is neither infinite nor NaN.
-pub(crate) fn is_finite(x: f64) -> bool
-    ensures { λ r. ⌜ r ≡ finite x ⌝ }
-{
-    let top = 1.0 / 0.0;
-    -top < x && x < top
-}
+use float::is_finite;
 
 // The flat index of the first reading that is infinite or NaN, where the search stops at once; as
 // many as there are readings where there is none.

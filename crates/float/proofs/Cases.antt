@@ -15,7 +15,8 @@ use Rattle.method.specs.Root.{square, rooted, squareRoot}
 use Rattle.method.specs.Root.Grid.{less-or-not}
 use Rattle.method.specs.Root.Laws.{squareRoot-of}
 use Rattle.method.specs.Root.Patterns.{fieldCount, bits-count}
-use Rattle.float.proofs.Signs.{signed, bits-signed}
+use Rattle.method.specs.Floats.{negative}
+use Rattle.float.proofs.Signs.{bits-signed}
 use Rattle.float.proofs.Joined.{bits-positive}
 
 -- what holds of the value of a pattern holds of each value with that pattern
@@ -75,9 +76,9 @@ unfolding fits toBits
 minus-zero-bits e F = ap (λ (z : ℤ). toBits binary64 (fin true zero z)) (flat e (eqb→eq (up e * down e) 1 F))
 
 signed-root :
-    (x : Float) → T (fits binary64 x) → signed x ≡ true → (toBits binary64 x ≡ 2 ^ 63 → ⊥) →
+    (x : Float) → T (fits binary64 x) → negative x ≡ true → (toBits binary64 x ≡ 2 ^ 63 → ⊥) →
     nan ≡ squareRoot binary64 x
-unfolding squareRoot
+unfolding squareRoot negative
 signed-root nan F s n = refl
 signed-root (inf true) F s n = refl
 signed-root (inf false) F s n = absurd (true≢false (sym s))

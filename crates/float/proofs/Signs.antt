@@ -8,7 +8,7 @@ use lib.Dec.{T, leb, eqb, le→leb}
 use lib.Arith.{lt→nleb}
 use lib.Ieee.{Float, nan, inf, fin, binary64, odd, fits, isNan, ofFields, ofBits, toBits, nanBits}
 use lib.Ieee.Bits.{ofBits-toBits, is-true, is-false, nanBits-is}
-use Rattle.method.specs.Floats.{magnitude, signOf, pick}
+use Rattle.method.specs.Floats.{magnitude, signOf, negative, pick}
 
 -- what owning an `f64` tells: the format holds it
 pub held : (x : Float) → fits binary64 x ≡ true → T (fits binary64 x)
@@ -26,25 +26,20 @@ first x y false true n h = absurd (true≢false h)
 first x y false false n h = refl
 
 -- ---- the sign
-abbrev pub signed : Float → Bool
-signed nan = false
-signed (inf s) = s
-signed (fin s m e) = s
-
-odd-signed : (d : ℕ) (s : Bool) (q k l : ℕ) → signed (odd d s q k l) ≡ s
-unfolding odd
+odd-signed : (d : ℕ) (s : Bool) (q k l : ℕ) → negative (odd d s q k l) ≡ s
+unfolding odd negative
 odd-signed d s zero k l = refl
 odd-signed d s (suc q) k l = refl
 
 pick-signed :
-    (a b s : Bool) (v : Float) → signed v ≡ s → T (not (isNan (cond a (cond b (inf s) nan) v))) →
-    signed (cond a (cond b (inf s) nan) v) ≡ s
-unfolding isNan
+    (a b s : Bool) (v : Float) → negative v ≡ s → T (not (isNan (cond a (cond b (inf s) nan) v))) →
+    negative (cond a (cond b (inf s) nan) v) ≡ s
+unfolding isNan negative
 pick-signed true true s v e n = refl
 pick-signed true false s v e n = absurd n
 pick-signed false b s v e n = e
 
-fields-signed : (s : Bool) (x t : ℕ) → T (not (isNan (ofFields binary64 s x t))) → signed (ofFields binary64 s x t) ≡ s
+fields-signed : (s : Bool) (x t : ℕ) → T (not (isNan (ofFields binary64 s x t))) → negative (ofFields binary64 s x t) ≡ s
 unfolding ofFields
 fields-signed s zero t n = odd-signed 53 s t 0 1074
 fields-signed s (suc x) t n = pick-signed (eqb (suc x) 2047) (eqb t 0) s (odd 53 s (2 ^ 52 + t) x 1074) (odd-signed 53 s (2 ^ 52 + t) x 1074) n
@@ -53,15 +48,15 @@ ofBits-is : (b : ℕ) → ofBits binary64 b ≡ ofFields binary64 (leb (2 ^ 63) 
 unfolding ofBits
 ofBits-is b = refl
 
--- a value is signed where its pattern has the highest bit
-pub bits-signed : (x : Float) → T (fits binary64 x) → T (not (isNan x)) → signed x ≡ leb (2 ^ 63) (toBits binary64 x)
+-- a value is negative where its pattern has the highest bit
+pub bits-signed : (x : Float) → T (fits binary64 x) → T (not (isNan x)) → negative x ≡ leb (2 ^ 63) (toBits binary64 x)
 bits-signed x F n =
     let b = toBits binary64 x in
     let is : x ≡ ofFields binary64 (leb (2 ^ 63) b) (b % 2 ^ 63 / 2 ^ 52) (b % 2 ^ 52) = sym (ofBits-toBits binary64 x F) ∙ ofBits-is b in
-    ap signed is ∙ fields-signed (leb (2 ^ 63) b) (b % 2 ^ 63 / 2 ^ 52) (b % 2 ^ 52) (subst (λ (y : Float). T (not (isNan y))) is n)
+    ap negative is ∙ fields-signed (leb (2 ^ 63) b) (b % 2 ^ 63 / 2 ^ 52) (b % 2 ^ 52) (subst (λ (y : Float). T (not (isNan y))) is n)
 
-sign-is : (x : Float) → T (not (isNan x)) → fin (signed x) 1 (pos 0) ≡ signOf x
-unfolding signOf isNan
+sign-is : (x : Float) → T (not (isNan x)) → fin (negative x) 1 (pos 0) ≡ signOf x
+unfolding signOf isNan negative
 sign-is nan n = absurd n
 sign-is (inf s) n = refl
 sign-is (fin s m e) n = refl

@@ -1,8 +1,10 @@
 -- Any two answers that the promise of a public function allows are equal. Assumes nothing.
 use mathlib.Core.Path.{_≡_, sym, _∙_}
+use mathlib.Core.Bool.{Bool}
 use Prim.Native.Nat.{ℕ}
 use lib.Ieee.{Float, binary64, ofBits, toBits}
-use Rattle.method.specs.Floats.{magnitude, signOf, smaller, larger}
+use lib.Ieee.Scale.{finite}
+use Rattle.method.specs.Floats.{magnitude, signOf, negative, smaller, larger}
 use Rattle.method.specs.Root.{squareRoot}
 
 -- any two answers of which `Promise` holds are equal
@@ -18,6 +20,12 @@ magnitude-one x = equated-one (magnitude x)
 
 pub sign-one : (x : Float) → OneAnswer (λ (r : Float). r ≡ signOf x)
 sign-one x = equated-one (signOf x)
+
+pub negative-one : (x : Float) → OneAnswer (λ (r : Bool). r ≡ negative x)
+negative-one x = equated-one (negative x)
+
+pub finite-one : (x : Float) → OneAnswer (λ (r : Bool). r ≡ finite x)
+finite-one x = equated-one (finite x)
 
 pub smaller-one : (x y : Float) → OneAnswer (λ (r : Float). r ≡ smaller x y)
 smaller-one x y = equated-one (smaller x y)

@@ -1,10 +1,12 @@
 // The five helpers on f64 that the method's rules use: magnitude, sign, the smaller, the larger and
-// the square root. Each is the definition of its name in method, for every argument. And a float from
-// and to its bit pattern, all NaNs alike.
+// the square root. Each is the definition of its name in method, for every argument. Besides, whether
+// a float has its sign bit set and whether it is finite; and a float from and to its bit pattern, all
+// NaNs alike.
 ghost use mathlib.Core.Path.{_≡_};
 ghost use Prim.Native.Nat.{_+_, _*_, _^_, _<_, _≤_};
 ghost use lib.Ieee.{binary64, ofBits, toBits};
-ghost use Rattle.method.specs.Floats.{magnitude, signOf, smaller, larger};
+ghost use lib.Ieee.Scale.{finite};
+ghost use Rattle.method.specs.Floats.{magnitude, signOf, negative, smaller, larger};
 ghost use Rattle.method.specs.Root.{squareRoot, rooted, count, square};
 
 // x with its sign cleared.
@@ -28,6 +30,24 @@ pub fn sign(x: f64) -> f64
         return 1.0;
     }
     -1.0
+}
+
+// Whether x has its sign bit set, as -0 has; not so of a NaN.
+pub fn negative(x: f64) -> bool
+    ensures { λ r. ⌜ r ≡ negative x ⌝ }
+{
+    if x != x {
+        return false;
+    }
+    f64::to_bits(x) >= 0x8000_0000_0000_0000
+}
+
+// Whether x is neither infinite nor NaN.
+pub fn is_finite(x: f64) -> bool
+    ensures { λ r. ⌜ r ≡ finite x ⌝ }
+{
+    let top = 1.0 / 0.0;
+    -top < x && x < top
 }
 
 // The smaller of x and y: of a NaN and a number the number, of +0 and -0 the first.

@@ -1,12 +1,12 @@
 -- The numbers that the method writes out, and four of its five helpers on floats: magnitude, sign, smaller and larger.
 -- (The fifth, the square root, is in Root.) They turn on no format: each hands back one of its arguments, its
--- magnitude, or 1 with its sign. Definitions, and that the patterns the code writes stand for these numbers. Assumes
--- nothing.
+-- magnitude, or 1 with its sign. Besides, whether the sign bit is set, and a float with another's sign. Definitions, and
+-- that the patterns the code writes stand for these numbers. Assumes nothing.
 pub mod Laws
 use mathlib.Core.Path.{_≡_, refl}
 use mathlib.Core.Bool.{Bool, true, false}
 use lib.IntN.{pos}
-use lib.Ieee.{Float, nan, inf, fin, binary64, lt, isNan, ofBits}
+use lib.Ieee.{Float, nan, inf, fin, binary64, lt, isNan, neg, ofBits}
 
 -- +0, 1 and 2
 abbrev pub plusZero : Float
@@ -34,6 +34,21 @@ unfoldable pub signOf : Float → Float
 signOf nan = nan
 signOf (inf s) = fin s 1 (pos 0)
 signOf (fin s m e) = fin s 1 (pos 0)
+
+-- whether x has its sign bit set, as -0 has; the NaN counts as having none
+unfoldable pub negative : Float → Bool
+negative nan = false
+negative (inf s) = s
+negative (fin s m e) = s
+
+-- x, negated where d has its sign bit set
+abbrev pub signed : Float → Float → Float
+signed d x = pick (negative d) (neg x) x
+
+-- the same where signs are asked for, else x as it is
+abbrev pub signedIf : Bool → Float → Float → Float
+signedIf true d x = signed d x
+signedIf false d x = x
 
 -- the smaller of the two: of a NaN and a number the number, and x where neither is below the other, as with +0 and -0
 unfoldable pub smaller : Float → Float → Float

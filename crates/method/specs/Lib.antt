@@ -4,6 +4,7 @@ pub mod Nans
 pub mod Root
 pub mod Repeated
 pub mod Index
+pub mod Writes
 pub mod Rotation
 pub mod Signs
 pub mod Finite
@@ -19,6 +20,8 @@ pub mod Fill
 pub mod View
 pub mod Report
 pub mod Outcome
+pub mod Order
+pub mod Ordered
 pub mod Defaults
 pub mod Cases
 pub mod Lengths

@@ -1,8 +1,9 @@
 -- A counted loop as a function: `repeated lo hi step s` is s after step was made for lo, lo + 1, .., hi - 1, in that
 -- order. Every loop of the method is written so. Its laws are what the proofs of the code and of the lengths go by.
 -- Assumes nothing.
-use mathlib.Core.Path.{_≡_, refl, sym}
-use Prim.Native.Nat.{ℕ, zero, suc, _+_, _-_, _≤_, zero-le}
+use mathlib.Core.Path.{_≡_, refl, sym, ap, _∙_}
+use Prim.Native.Nat.{ℕ, zero, suc, _+_, _-_, _<_, _≤_, zero-le}
+use native.Mathlib.Numerals.{add-one}
 use native.Mathlib.Omega.{arith}
 
 -- n turns, the first of which is numbered lo
@@ -53,3 +54,19 @@ repeated-alike R lo step step′ both hi s s′ r = walk (hi - lo)
 pub repeated-next :
     {S : Type 0} (step : ℕ → S → S) (k : ℕ) (s : S) → repeated 0 (k + 1) step s ≡ step k (repeated 0 k step s)
 repeated-next step k s = sym (repeated-more 0 step k s (repeated 0 k step s) zero-le refl)
+
+-- the last turn of suc k
+pub repeated-suc :
+    {S : Type 0} (step : ℕ → S → S) (k : ℕ) (s : S) → repeated 0 (suc k) step s ≡ step k (repeated 0 k step s)
+repeated-suc step k s = ap (λ (n : ℕ). repeated 0 n step s) (sym (add-one k)) ∙ repeated-next step k s
+
+-- steps that do the same do the same together
+pub repeated-same :
+    {S : Type 0} (step step′ : ℕ → S → S) (hi : ℕ) (s : S) →
+    ((k : ℕ) (t : S) → k < hi → step k t ≡ step′ k t) → repeated 0 hi step s ≡ repeated 0 hi step′ s
+repeated-same step step′ zero s h = sym (repeated-none 0 step s) ∙ repeated-none 0 step′ s
+repeated-same step step′ (suc k) s h =
+    repeated-suc step k s
+    ∙ h k (repeated 0 k step s) (omega arith)
+    ∙ ap (step′ k) (repeated-same step step′ k s (λ i t l. h i t (omega arith)))
+    ∙ sym (repeated-suc step′ k s)

@@ -1,6 +1,7 @@
 -- What a call reports: the refusal, the word, and what the walk counted. A refused call reports the refusal alone; an
 -- accepted one, the state that its walk came to. Definitions only.
 pub mod Words
+use mathlib.Core.Bool.{Bool, true, false}
 use Prim.Native.Nat.{ℕ}
 use lib.Dec.{eqb}
 use Rattle.method.specs.Floats.{pick}
@@ -17,6 +18,12 @@ abbrev pub wordNumber : Word → ℕ
 wordNumber none = 0
 wordNumber settled = 1
 wordNumber stopped = 2
+
+-- whether it is `settled`
+abbrev pub isSettled : Word → Bool
+isSettled none = false
+isSettled settled = true
+isSettled stopped = false
 
 pub record Report : Type 0 where
   pub refusal : Refusal

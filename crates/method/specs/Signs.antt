@@ -1,6 +1,6 @@
 -- Signs (document 005): that the Rust's `apply_gt_right`, which calls `apply_g_right` with the sine negated, turns two
--- columns as Rotation defines it, for every float and both formats. Laws of the negative of a float, and the two ways
--- of turning side by side. Assumes nothing.
+-- columns as Rotation defines it, for every float and both formats. Laws of the negative of a float, of a float with
+-- another's sign, and the two ways of turning side by side. Assumes nothing.
 use mathlib.Core.Path.{_≡_, refl, ap, _∙_}
 use mathlib.Core.Bool.{Bool, true, false, not, cond, Bool·not-not}
 use mathlib.Core.List.{List}
@@ -8,6 +8,7 @@ use Prim.Native.Nat.{ℕ, zero, suc, _+_, _*_, _^_}
 use lib.Dec.{ltb, eqb}
 use lib.ListN.{getD, set}
 use lib.Ieee.{Float, nan, inf, fin, Format, prec, emax, low, unlike, up, down, odd, units, round, neg, add, sub, mul}
+use Rattle.method.specs.Floats.{pick, magnitude, negative, signed}
 use Rattle.method.specs.Repeated.{repeated, repeated-alike}
 use Rattle.method.specs.Rotation.{Rotation, pairTurned, columnsTurned}
 
@@ -68,10 +69,55 @@ mul-neg-left f (fin s m e) (inf t) = infinite-neg (eqb m 0) s t
 mul-neg-left f (fin s m e) (fin t n d) =
     rw unlike-not (round-neg f (unlike s t) (m * up e * (n * up d)) (down e * down d))
 
+-- two signs changed leave the product's sign
+unlike-both : (s t : Bool) → unlike (not s) (not t) ≡ unlike s t
+unlike-both true true = refl
+unlike-both true false = refl
+unlike-both false true = refl
+unlike-both false false = refl
+
+-- the product of the negatives is the product
+pub mul-negs : (f : Format) (x y : Float) → mul f (neg x) (neg y) ≡ mul f x y
+unfolding mul neg
+mul-negs f nan y = refl
+mul-negs f (inf s) nan = refl
+mul-negs f (inf s) (inf t) = rw unlike-both
+mul-negs f (inf s) (fin t n d) = rw unlike-both
+mul-negs f (fin s m e) nan = refl
+mul-negs f (fin s m e) (inf t) = rw unlike-both
+mul-negs f (fin s m e) (fin t n d) = rw unlike-both
+
 -- to take away the negative is to add
 pub sub-neg : (f : Format) (x y : Float) → sub f x (neg y) ≡ add f x y
 unfolding sub
 sub-neg f x y = rw neg-neg
+
+-- ---- a float with another's sign
+
+-- a sign put on twice is no sign
+pub signed-twice : (d x : Float) → signed d (signed d x) ≡ x
+signed-twice d x = go (negative d)
+  where
+    go : (b : Bool) → pick b (neg (pick b (neg x) x)) (pick b (neg x) x) ≡ x
+    go true = neg-neg x
+    go false = refl
+
+-- the magnitude of d is d with d's own sign
+magnitude-signed : (d : Float) → magnitude d ≡ signed d d
+unfolding magnitude negative neg
+magnitude-signed nan = refl
+magnitude-signed (inf true) = refl
+magnitude-signed (inf false) = refl
+magnitude-signed (fin true m e) = refl
+magnitude-signed (fin false m e) = refl
+
+-- d's sign on the other factor, and d's magnitude: the same product, without a rounding more or less
+pub sign-moves : (f : Format) (x d : Float) → mul f (signed d x) (magnitude d) ≡ mul f x d
+sign-moves f x d = ap (mul f (signed d x)) (magnitude-signed d) ∙ go (negative d)
+  where
+    go : (b : Bool) → mul f (pick b (neg x) x) (pick b (neg d) d) ≡ mul f x d
+    go true = mul-negs f x d
+    go false = refl
 
 -- ---- columns turned as the Rust has it
 

@@ -61,6 +61,11 @@ from-report r = ap (worded r) (from-word (r .word))
 pub report-one : (r r′ : Report) → reportOf r ≡ reportOf r′ → r ≡ r′
 report-one r r′ e = sym (from-report r) ∙ ap fromReport e ∙ from-report r′
 
+-- `Report::refused`
+pub refused-one :
+    (x : Checks.Refusal) (r r′ : Report) → reportOf r ≡ Report.refused x → reportOf r′ ≡ Report.refused x → r ≡ r′
+refused-one x r r′ e e′ = report-one r r′ (e ∙ sym e′)
+
 -- ---- the two drivers
 
 pub record SameAnswer (r r′ : Report) (b b′ u u′ v v′ : List Float) : Type 0 where
@@ -70,7 +75,7 @@ pub record SameAnswer (r r′ : Report) (b b′ u u′ v v′ : List Float) : Ty
   pub right : v ≡ v′
 
 -- two outcomes that are one
-answers-one :
+pub answers-one :
     (o : Outcome) (r r′ : Report) (b b′ u u′ v v′ : List Float) →
     outcomeOf (reportOf r) (work b u v) ≡ o →
     outcomeOf (reportOf r′) (work b′ u′ v′) ≡ o →

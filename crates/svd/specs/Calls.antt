@@ -4,10 +4,12 @@ use mathlib.Core.Bool.{Bool, true, false}
 use mathlib.Core.List.{List, [], _∷_}
 use Prim.Native.Nat.{ℕ, _*_, _≤_, zero-le}
 use native.Mathlib.Nat.{le-refl, le-of-eq, zero-mul}
+use lib.Dec.{leb}
 use lib.ListN.{length}
+use borrow.Author.Tests.{leb-true, leb-false}
 use lib.Ieee.{Float, binary64}
 use Rattle.method.specs.Floats.{pick}
-use Rattle.method.specs.Work.{Work, work, packed}
+use Rattle.method.specs.Work.{Work, Shape, work, packed}
 use Rattle.method.specs.Lengths.{SameLengths, outcome-lengths}
 use Rattle.method.specs.Walk.{Walk, State, stands}
 use Rattle.method.specs.Settings.{Settings, mostSize}
@@ -15,9 +17,9 @@ use Rattle.method.specs.Checks.{Refusal, refusalOf}
 use Rattle.method.specs.Checks.Table.{Fit, fit}
 use Rattle.method.specs.Report.{Report, refused, reported}
 use Rattle.method.specs.Report.Words.{reported-same}
-use Rattle.method.specs.Outcome.{Outcome, outcomeOf, walkedFrom, accepted, outcome}
+use Rattle.method.specs.Outcome.{Outcome, outcomeOf, card, walkedFrom, accepted, outcome}
 use Rattle.method.specs.Outcome.Refused.{refused-outcome, accepted-outcome}
-use Rattle.svd.specs.Values.{Lent, Lending}
+use Rattle.svd.specs.Values.{Lent, Lending, Inside}
 use native.Mathlib.Omega.{arith}
 
 -- ---- the two ways out of a call
@@ -78,6 +80,22 @@ fit-lending kept rows cols s w f =
       u = kept-lent kept rows (w .u) (f .rows-few) (f .u-length);
       v = kept-lent kept cols (w .v) (f .cols-few) (f .v-length);
     }
+
+-- ---- a table has as many values as the smaller of rows and columns
+
+pub values-inside :
+    (z : Shape) (c : ℕ) → c ≡ card (z .rows) (z .cols) → Inside z 1 → (1 ≤ c) × Inside z c
+values-inside z c e i = go (leb (z .cols) (z .rows)) refl
+  where
+    go : (b : Bool) → leb (z .cols) (z .rows) ≡ b → (1 ≤ c) × Inside z c
+    go true t =
+        let n : c ≡ z .cols = e ∙ rw t refl in
+        let less = leb-true (z .cols) (z .rows) t in
+        (omega (arith, n, i .in-cols), record { in-rows = omega (arith, n, less); in-cols = omega (arith, n) })
+    go false t =
+        let n : c ≡ z .rows = e ∙ rw t refl in
+        let more = leb-false (z .cols) (z .rows) t in
+        (omega (arith, n, i .in-rows), record { in-rows = omega (arith, n); in-cols = omega (arith, n, more) })
 
 -- ---- the plain call lends two empty lists of its own
 

@@ -7,6 +7,7 @@ use crate::report::Report;
 use crate::shape::Shape;
 use checks::refusal::first_refusal;
 use checks::settings::Settings;
+use checks::sizes::smaller_size;
 ghost use mathlib.Core.Path.{_≡_};
 ghost use mathlib.Core.List.{[]};
 ghost use Prim.Native.Nat.{_≤_};
@@ -14,19 +15,12 @@ ghost use lib.Ieee.{binary64};
 ghost use Rattle.method.specs.Work.{work};
 ghost use Rattle.method.specs.Walk.{stands};
 ghost use Rattle.method.specs.Settings.{mostLimit, mostCredit};
-ghost use Rattle.method.specs.Outcome.{card, outcomeOf, walkedFrom, plainOutcome, fullOutcome};
+ghost use Rattle.method.specs.Outcome.{outcomeOf, walkedFrom, plainOutcome, fullOutcome};
 ghost use Rattle.checks.specs.Values.{settingsOf};
 ghost use Rattle.svd.specs.Values.{sizes, walkOf, reportOf, Lending, Inside};
 
 // No allowed call makes more passes: the definition's `mostPasses`.
 const MOST_PASSES: usize = 146000;
-
-fn smaller_size(rows: usize, cols: usize) -> usize
-    requires { ⌜ (1 ≤ rows) × (1 ≤ cols) ⌝ }
-    ensures { λ r. ⌜ (r ≡ card rows cols) × (1 ≤ r) × (r ≤ rows) × (r ≤ cols) ⌝ }
-{
-    if cols <= rows { cols } else { rows }
-}
 
 // The bidiagonal form, and then the walk.
 fn decompose(b: &mut [f64], u: &mut [f64], v: &mut [f64], z: Shape, s: Settings) -> Walk

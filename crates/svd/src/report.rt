@@ -40,7 +40,8 @@ pub struct Report {
 }
 
 impl Report {
-    pub(crate) fn refused(refusal: Refusal) -> Report
+    // The report of a refused call: the refusal alone.
+    pub fn refused(refusal: Refusal) -> Report
         ensures { λ r. ⌜ reportOf r ≡ refused (refusalIn refusal) ⌝ }
     {
         Report {

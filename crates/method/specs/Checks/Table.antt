@@ -101,13 +101,13 @@ before kept rows cols s w = sizeChecks rows cols ++ lengthChecks kept rows cols 
 
 -- ---- each test says its condition
 
-size-tests : (rows cols : ℕ) → Means (sizeChecks rows cols) (sizeMeanings rows cols)
+pub size-tests : (rows cols : ℕ) → Means (sizeChecks rows cols) (sizeMeanings rows cols)
 size-tests rows cols =
     either (same rows 0) (same cols 0)
     ⨾ either (less mostSize rows) (less mostSize cols)
     ⨾ done
 
-length-tests :
+pub length-tests :
     (kept : Bool) (rows cols : ℕ) (w : Work) → Means (lengthChecks kept rows cols w) (lengthMeanings kept rows cols w)
 length-tests kept rows cols w =
     nor (same (length (w .matrix)) (rows * cols))
@@ -115,13 +115,13 @@ length-tests kept rows cols w =
     ⨾ both (holds kept) (nor (same (length (w .v)) (cols * cols)))
     ⨾ done
 
-setting-tests : (s : Settings) → Means (settingChecks s) (settingMeanings s)
+pub setting-tests : (s : Settings) → Means (settingChecks s) (settingMeanings s)
 setting-tests s =
     either (less mostLimit (s .limit)) (less mostCredit (s .credit))
     ⨾ notAll (boundFit (s .tolerance)) (boundFit (s .absolute)) (floorFit (s .floor))
     ⨾ done
 
-reading-tests : (b : List Float) → Means (readingChecks b) (readingMeanings b)
+pub reading-tests : (b : List Float) → Means (readingChecks b) (readingMeanings b)
 reading-tests b = bad-reading b ⨾ done
 
 -- sizes that are not refused are small

@@ -1,0 +1,29 @@
+-- `run_refusal` meets its contract: one check after the other, as the definition has them. Assumes nothing.
+use borrow.Author.Needs.{needs}
+use mathlib.Core.Path.{sym, ap, _∙_}
+use mathlib.Core.Bool.{not}
+use Rattle.method.specs.Checks.First.{first-hit, first-miss, first-none}
+use Rattle.order.proofs.ordered.run_refusal.Statement.{statement}
+use Rattle.order.proofs.ordered.run_refusal.Tie as tie
+
+returns : tie.Need-returns
+returns c = sym (first-hit _ _ (ap not (sym (c .before .is-settled .ensures)) ∙ c .if1 .taken))
+
+returns-2 : tie.Need-returns-2
+returns-2 c =
+    let at-word = c .before .before in
+    sym
+    (first-miss _ _ (ap not (sym (at-word .before .is-settled .ensures)) ∙ at-word .if1 .left)
+    ∙ first-hit _ _ (ap not (sym (c .before .all-finite .ensures)) ∙ c .if2 .taken))
+
+returns-3 : tie.Need-returns-3
+returns-3 c =
+    let at-word = c .before .before in
+    sym
+    (first-miss _ _ (ap not (sym (at-word .before .is-settled .ensures)) ∙ at-word .if1 .left)
+    ∙ first-miss _ _ (ap not (sym (c .before .all-finite .ensures)) ∙ c .if2 .left)
+    ∙ first-none)
+
+pub run-refusal-spec : {M : Type 1} → statement M
+run-refusal-spec =
+    tie.close (tie.spec (λ c κs. search needs) returns (λ c κs. search needs) returns-2 returns-3)
