@@ -370,6 +370,8 @@ fn runs_wrong(wrong: &mut Vec<(Run, Told)>) {
                 reply.matrix.resize(lent.matrix.len(), 0.0);
                 reply.u.resize(lent.u.len(), 0.0);
                 reply.v.resize(lent.v.len(), 0.0);
+            }
+            if let Some(reply) = &mut told.ordered {
                 reply.values.resize(lent.values.len(), 0.0);
             }
             (differing(&run, &told) > 0).then_some((run, told))

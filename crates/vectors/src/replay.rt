@@ -197,7 +197,10 @@ fn calls(
     if head.kept == 0 {
         copy(b, c);
         let first = plain(c, b2, head, answer);
-        return Both { first, beside: true };
+        return Both {
+            first,
+            beside: true,
+        };
     }
     let beside = plain_agrees(b, c, b2, head, answer);
     let first = full_of(b, u, v, c, cu, cv, b2, u2, v2, head, answer);
@@ -273,30 +276,7 @@ fn read_before(b: &mut [f64], u: &mut [f64], v: &mut [f64], head: Head) -> bool 
     begin(u, v, head)
 }
 
-// The run of which all but the ordered call is known, and of that this answer.
-fn ordered_answered(
-    b: &mut [f64],
-    u: &mut [f64],
-    v: &mut [f64],
-    values: &mut [f64],
-    b2: &mut [f64],
-    u2: &mut [f64],
-    v2: &mut [f64],
-    values2: &mut [f64],
-    head: Head,
-    both: Both,
-    answer: &Answer,
-) -> Seen
-    requires { ⌜ (length (now b) ≡ length (now b2)) × (length (now u) ≡ length (now u2))
-        × (length (now v) ≡ length (now v2)) ⌝ }
-{
-    if !read_ordered(b, u, v, b2, u2, v2, values2, answer) {
-        return Seen::Malformed(head.differ > 0);
-    }
-    Seen::Run(put_in_order(b, u, v, values, b2, u2, v2, values2, head, both, answer))
-}
-
-// The same, and the answer stands next.
+// The run of which all but the ordered call is known: that call's answer stands next.
 fn ordered_next(
     b: &mut [f64],
     u: &mut [f64],
@@ -316,7 +296,10 @@ fn ordered_next(
     if !read_answer(&mut answer) {
         return Seen::Malformed(head.differ > 0);
     }
-    ordered_answered(b, u, v, values, b2, u2, v2, values2, head, both, &answer)
+    if !read_ordered(b, u, v, b2, u2, v2, values2, &answer) {
+        return Seen::Malformed(head.differ > 0);
+    }
+    Seen::Run(put_in_order(b, u, v, values, b2, u2, v2, values2, head, both, &answer))
 }
 
 // The run whose first answer this is: b, u and v hold the lists, b2, u2 and v2 what they are to be.
@@ -350,7 +333,19 @@ fn replayed(
     let mut c = blank();
     let mut cu = blank();
     let mut cv = blank();
-    let both = calls(b, u, v, &mut c[..n], &mut cu[..nu], &mut cv[..nv], b2, u2, v2, head, answer);
+    let both = calls(
+        b,
+        u,
+        v,
+        &mut c[..n],
+        &mut cu[..nu],
+        &mut cv[..nv],
+        b2,
+        u2,
+        v2,
+        head,
+        answer,
+    );
     if head.kept < 2 {
         return Seen::Run(judged(head, both, true, false));
     }
