@@ -1,13 +1,13 @@
 //! Runs of every kind, drawn: run `number` of a seed is always the same one. The kinds of readings,
-//! of settings, of what U and V hold and of unfit input are drawn apart from each other, so that all
-//! of them meet.
+//! of settings, of what U, V and the list of values hold and of unfit input are drawn apart from each
+//! other, so that all of them meet.
 
 use crate::Settings;
 use crate::cases::Draw;
-use crate::run::{Run, Start};
+use crate::run::{Call, Run, Start};
 
 /// The kinds of tables, by name.
-pub const TABLES: [&str; 16] = [
+pub const TABLES: [&str; 17] = [
     "ordinary",
     "anemometer readings",
     "small whole numbers",
@@ -24,7 +24,12 @@ pub const TABLES: [&str; 16] = [
     "all equal",
     "two diagonals",
     "graded",
+    "equal values",
 ];
+
+/// The last kind: tables that settle with equal values, among them zeros of either sign, or with values
+/// that are not finite.
+const EQUAL_VALUES: usize = TABLES.len() - 1;
 
 /// How large the drawn tables are.
 #[derive(Clone, Copy, PartialEq, Eq)]
@@ -283,13 +288,48 @@ pub(crate) fn table(
             }
             table
         }
-        _ => {
+        15 => {
             let step = of(draw, &[0.5, 0.1, 1e-3, 1e-8]);
             (0..many)
                 .map(|at| even(draw) * f64::powi(step, (at / cols + at % cols) as i32))
                 .collect()
         }
+        _ => equal_values(draw, rows, cols),
     }
+}
+
+/// One of few magnitudes in each line, on the diagonal or anywhere else where no other line has one. Now
+/// and then a line with two entries whose squares' root is above the largest double.
+fn equal_values(draw: &mut Draw, rows: usize, cols: usize) -> Vec<f64> {
+    let magnitudes: [&[f64]; 4] = [
+        &[1.0],
+        &[1.0, 2.0],
+        &[0.5, 3.0, 0.0],
+        &[1e-3, 7.0, 7.0, 40.0],
+    ];
+    let magnitudes = of(draw, &magnitudes);
+    // A line is a column or, where there are more columns than rows, a row.
+    let (lines, long) = (rows.min(cols), rows.max(cols));
+    let mut places: Vec<usize> = (0..long).collect();
+    if draw.below(4) != 0 {
+        for at in (1..long).rev() {
+            places.swap(at, draw.below(at as u64 + 1) as usize);
+        }
+    }
+    let mut table = vec![0.0; rows * cols];
+    let at = |line: usize, place: usize| match cols > rows {
+        true => line * cols + place,
+        false => place * cols + line,
+    };
+    for line in 0..lines {
+        table[at(line, places[line])] = of(draw, magnitudes) * of(draw, &[1.0, -1.0]);
+    }
+    if long > lines && draw.below(4) == 0 {
+        let line = draw.below(lines as u64) as usize;
+        table[at(line, places[line])] = f64::MAX;
+        table[at(line, places[lines])] = f64::MAX;
+    }
+    table
 }
 
 /// U or V as it is lent: whole numbers, ordinary ones, with NaNs and infinities, zeros, any bits.
@@ -403,26 +443,47 @@ fn spoil(draw: &mut Draw, run: &mut Run, number: u64) {
     }
 }
 
+/// The list of values as it is lent: any bits, and another length than c in one run of sixteen, or of
+/// three where the run is unfit already, so that 11 meets the other numbers.
+fn values(draw: &mut Draw, length: usize, unfit: bool) -> Vec<f64> {
+    let mut list: Vec<f64> = (0..length).map(|_| f64::from_bits(draw.bits())).collect();
+    if draw.below(if unfit { 3 } else { 16 }) == 0 {
+        other_length(draw, &mut list);
+    }
+    list
+}
+
 /// Run `number` of the seed, and the kind of its table.
 pub fn drawn(seed: u64, number: u64, sizes: Sizes) -> (Run, usize) {
     let mut mixed = Draw(seed ^ number.wrapping_mul(0xD1B5_4A32_D192_ED03));
     let draw = &mut Draw(mixed.bits());
     let (rows, cols) = shape(draw, sizes);
     let settings = settings(draw, rows.min(cols) <= 3 && rows.max(cols) <= 6);
-    let kind = draw.below(TABLES.len() as u64) as usize;
+    let mut kind = draw.below(EQUAL_VALUES as u64) as usize;
     let mut run = Run {
         rows,
         cols,
         settings,
-        kept: draw.below(8) != 0,
+        call: match draw.below(8) {
+            0 => Call::Plain,
+            _ => Call::Ordered,
+        },
         matrix: table(draw, kind, rows, cols, settings.floor),
         start: start(draw, rows, cols),
+        values: Vec::new(),
     };
-    if draw.below(16) == 0 {
+    let unfit = draw.below(16) == 0;
+    if unfit {
         for _ in 0..1 + draw.below(2) {
             let number = 1 + draw.below(8);
             spoil(draw, &mut run, number);
         }
+    }
+    // Drawn last: what stands before is the same run as without them.
+    run.values = values(draw, rows.min(cols), unfit);
+    if !unfit && draw.below(32) == 0 {
+        kind = EQUAL_VALUES;
+        run.matrix = table(draw, kind, rows, cols, settings.floor);
     }
     (run, kind)
 }

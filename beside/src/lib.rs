@@ -8,6 +8,7 @@ pub mod answer;
 pub mod cases;
 pub mod kinds;
 pub mod limits;
+pub mod order;
 mod record;
 pub mod refusals;
 pub mod run;

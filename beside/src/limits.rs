@@ -2,7 +2,7 @@
 //! rules' table and the original. The cases stand a second time in crates/limits/src/main.rt.
 
 use crate::Settings;
-use crate::run::{Run, Start};
+use crate::run::{Call, Run, Start};
 use crate::text::hex;
 
 /// A case is a name; rows and columns; how long the matrix is, and for the accumulating call U and V; the matrix's first
@@ -74,9 +74,13 @@ fn run_of(parts: &[&str]) -> Run {
             tolerance: number(&settings[1]),
             ..Settings::DEFAULT
         },
-        kept: long.len() == 3,
+        call: match long.len() {
+            3 => Call::Accumulating,
+            _ => Call::Plain,
+        },
         matrix: table(count(&long[0]), number(&entries[0]), number(&entries[1])),
         start: Start::Given(table(factor(1), 1.0, 1.0), table(factor(2), 1.0, 1.0)),
+        values: Vec::new(),
     }
 }
 
@@ -93,13 +97,13 @@ fn shown(name: char, list: &[f64]) -> String {
 fn line(case: &str) -> String {
     let parts: Vec<&str> = case.split("; ").collect();
     let run = run_of(&parts[1..]);
-    let reply = run.reply(run.kept);
+    let reply = run.reply(run.call);
     let [number, place, word, counts @ ..] = reply.report.words();
     let word = ["none", "settled", "stopped"][word as usize];
     let counts = counts.map(|count| count.to_string()).join(" ");
     let mut text = format!("{}: {number} {place} {word} {counts}\n", parts[0]);
     text += &shown('b', &reply.matrix);
-    if run.kept {
+    if run.call.keeps() {
         text += &shown('u', &reply.u);
         text += &shown('v', &reply.v);
     }

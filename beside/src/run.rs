@@ -1,9 +1,39 @@
 //! One call as an app could make it, fit or not, and the reply that it must get: refused by the rules'
-//! table, or else what the original does.
+//! table, or else what the original does, for the ordered call with the values in order.
 
 use crate::text::{hex, hexes};
-use crate::{Report, Settings, run};
+use crate::{Report, Settings, order, run};
 use std::fmt::Write;
+
+/// The library's calls. A run of one of them can be made by those before it, too: they are lent less.
+#[derive(Clone, Copy, Debug, PartialEq, Eq, PartialOrd, Ord)]
+pub enum Call {
+    Plain,
+    /// With U and V.
+    Accumulating,
+    /// With U, V and the list of values.
+    Ordered,
+}
+
+impl Call {
+    pub fn name(self) -> &'static str {
+        ["plain", "accumulating", "ordered"][self as usize]
+    }
+
+    /// Whether the call is lent U and V.
+    pub fn keeps(self) -> bool {
+        self >= Call::Accumulating
+    }
+
+    /// Whether the call can answer this number.
+    pub fn has(self, number: u64) -> bool {
+        match number {
+            4 | 5 => self.keeps(),
+            11..=13 => self == Call::Ordered,
+            _ => true,
+        }
+    }
+}
 
 /// What U and V hold when the accumulating call begins.
 #[derive(Clone, Debug)]
@@ -18,20 +48,23 @@ pub struct Run {
     pub rows: usize,
     pub cols: usize,
     pub settings: Settings,
-    /// The accumulating call, and not the plain one alone.
-    pub kept: bool,
+    /// The call that is lent the most; those before it are made as well.
+    pub call: Call,
     pub matrix: Vec<f64>,
     /// The identity only where rows and columns are from 1 to 48.
     pub start: Start,
+    /// The list of values as the ordered call is lent it.
+    pub values: Vec<f64>,
 }
 
-/// The report and the lists as they are left; U and V are empty where they are not kept.
+/// The report and the lists as they are left; those that the call is not lent are empty.
 #[derive(Clone, Debug)]
 pub struct Reply {
     pub report: Report,
     pub matrix: Vec<f64>,
     pub u: Vec<f64>,
     pub v: Vec<f64>,
+    pub values: Vec<f64>,
 }
 
 impl Reply {
@@ -58,6 +91,11 @@ pub fn untouched(a: &[f64], b: &[f64]) -> bool {
     a.len() == b.len() && a.iter().zip(b).all(|(a, b)| a.to_bits() == b.to_bits())
 }
 
+/// A list of values before anything is written to it. No magnitude is below zero.
+pub fn unwritten(length: usize) -> Vec<f64> {
+    vec![-1.0; length]
+}
+
 fn identity(size: usize) -> Vec<f64> {
     let entry = |at: usize| if at % (size + 1) == 0 { 1.0 } else { 0.0 };
     (0..size * size).map(entry).collect()
@@ -72,9 +110,8 @@ impl Run {
         }
     }
 
-    /// The number and the place of the refusal that the rules ask for, of the accumulating call or of
-    /// the plain one.
-    pub fn refusal(&self, kept: bool) -> Option<(u64, u64)> {
+    /// The number and the place of the refusal that the rules ask for before the call's run.
+    pub fn refusal(&self, call: Call) -> Option<(u64, u64)> {
         let Settings {
             limit,
             credit,
@@ -92,13 +129,16 @@ impl Run {
         if self.matrix.len() != rows * cols {
             return Some((3, 0));
         }
-        if let (true, Start::Given(u, v)) = (kept, &self.start) {
+        if let (true, Start::Given(u, v)) = (call.keeps(), &self.start) {
             if u.len() != rows * rows {
                 return Some((4, 0));
             }
             if v.len() != cols * cols {
                 return Some((5, 0));
             }
+        }
+        if call == Call::Ordered && self.values.len() != rows.min(cols) {
+            return Some((11, 0));
         }
         if limit > 100_000 || credit > 1_000 {
             return Some((6, 0));
@@ -111,35 +151,62 @@ impl Run {
         bad.map(|place| (8, place as u64))
     }
 
-    /// The reply that the call must get.
-    pub fn reply(&self, kept: bool) -> Reply {
-        let (mut u, mut v) = if kept {
+    /// The lists as the call is lent them, with a report that says nothing.
+    pub fn lent(&self, call: Call) -> Reply {
+        let (u, v) = if call.keeps() {
             self.factors()
         } else {
-            (Vec::new(), Vec::new())
+            Default::default()
         };
-        let mut matrix = self.matrix.clone();
-        let report = match self.refusal(kept) {
-            Some((number, place)) => Report {
-                number,
-                place,
-                ..Report::default()
-            },
-            None => {
-                let uv = kept.then_some((&mut u[..], &mut v[..]));
-                run(self.rows, self.cols, &mut matrix, uv, &self.settings)
-            }
+        let values = if call == Call::Ordered {
+            self.values.clone()
+        } else {
+            Vec::new()
         };
         Reply {
-            report,
-            matrix,
+            report: Report::default(),
+            matrix: self.matrix.clone(),
             u,
             v,
+            values,
         }
     }
 
+    /// The reply that the call must get.
+    pub fn reply(&self, call: Call) -> Reply {
+        if call == Call::Ordered {
+            return self.ordered(&self.reply(Call::Accumulating));
+        }
+        self.refused(call).unwrap_or_else(|| {
+            let mut reply = self.lent(call);
+            let uv = call.keeps().then_some((&mut reply.u[..], &mut reply.v[..]));
+            reply.report = run(self.rows, self.cols, &mut reply.matrix, uv, &self.settings);
+            reply
+        })
+    }
+
+    /// The reply that the ordered call must get, from the one that the accumulating call gets.
+    pub fn ordered(&self, kept: &Reply) -> Reply {
+        self.refused(Call::Ordered)
+            .unwrap_or_else(|| order::ordered(self.rows, self.cols, kept, &self.values))
+    }
+
+    /// The reply of a call that is refused before its run: the lists as they are lent.
+    fn refused(&self, call: Call) -> Option<Reply> {
+        let (number, place) = self.refusal(call)?;
+        let report = Report {
+            number,
+            place,
+            ..Report::default()
+        };
+        Some(Reply {
+            report,
+            ..self.lent(call)
+        })
+    }
+
     /// The run in words: sizes and settings, then the table as survey text where it is one, then U
-    /// and V.
+    /// and V, then the list of values.
     pub fn told(&self) -> String {
         let Settings {
             limit,
@@ -148,9 +215,9 @@ impl Run {
             absolute,
             floor,
         } = self.settings;
-        let call = if self.kept { "accumulating" } else { "plain" };
         let mut text = format!(
-            "{call} call, {} x {}, limit {limit}, credit {credit}, tolerance {tolerance:e} ({}), absolute {absolute:e} ({}), floor {floor:e} ({})\n",
+            "{} call, {} x {}, limit {limit}, credit {credit}, tolerance {tolerance:e} ({}), absolute {absolute:e} ({}), floor {floor:e} ({})\n",
+            self.call.name(),
             self.rows,
             self.cols,
             hex(tolerance),
@@ -171,11 +238,19 @@ impl Run {
             );
         }
         match &self.start {
-            _ if !self.kept => {}
+            _ if !self.call.keeps() => {}
             Start::Identity => text += "U and V: the identity\n",
             Start::Given(u, v) => {
                 let _ = writeln!(text, "U: {}\nV: {}", hexes(u), hexes(v));
             }
+        }
+        if self.call == Call::Ordered {
+            let _ = writeln!(
+                text,
+                "list of {}: {}",
+                self.values.len(),
+                hexes(&self.values)
+            );
         }
         text
     }

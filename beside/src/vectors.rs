@@ -1,12 +1,12 @@
 //! Runs of the calls with their replies, written as crates/vectors/src/stored.rt says and the program
 //! `vectors` replays them. In a reply every NaN is 7FF8000000000000.
 
-use crate::{Report, Settings};
 use crate::cases::{self, Draw};
 use crate::kinds::{Sizes, drawn, table};
 use crate::refusals;
-use crate::run::{Reply, Run, Start, alike, untouched};
+use crate::run::{Call, Reply, Run, Start, alike, untouched, unwritten};
 use crate::text::Case;
+use crate::{Report, Settings};
 use std::io::{self, Write};
 
 /// No list of a stored run may be longer: 49 x 49.
@@ -16,12 +16,12 @@ pub const LONGEST: usize = 2401;
 /// passes, and large tables.
 pub fn stored() -> Vec<Run> {
     let mut runs: Vec<Run> = cases::all().into_iter().map(Run::from).collect();
-    runs.extend(refusals::all().into_iter().map(|(_, run)| run));
+    runs.extend(refusals::all().into_iter().map(|(_, _, run)| run));
     for (most, many) in [(3, 500), (6, 600), (12, 170), (24, 30)] {
         let drawn = (0..).map(|number| drawn(0x570E, number, Sizes::UpTo(most)).0);
         runs.extend(
             drawn
-                .filter(|run| reply(run).report.passes <= MOST_PASSES)
+                .filter(|run| told(run).first.report.passes <= MOST_PASSES)
                 .take(many),
         );
     }
@@ -51,7 +51,10 @@ fn large() -> impl Iterator<Item = Run> {
             rows,
             cols,
             settings: Settings::DEFAULT,
-            kept: number != 1,
+            call: match number {
+                1 => Call::Plain,
+                _ => Call::Ordered,
+            },
             matrix: table(
                 &mut Draw(number as u64),
                 number % 2,
@@ -60,6 +63,7 @@ fn large() -> impl Iterator<Item = Run> {
                 Settings::DEFAULT.floor,
             ),
             start: Start::Identity,
+            values: unwritten(rows.min(cols)),
         })
 }
 
@@ -74,9 +78,13 @@ impl From<Case> for Run {
             rows: case.rows,
             cols: case.cols,
             settings: case.settings,
-            kept: case.uv.is_some(),
+            call: match case.uv {
+                Some(_) => Call::Ordered,
+                None => Call::Plain,
+            },
             matrix: case.matrix,
             start: Start::Identity,
+            values: unwritten(case.rows.min(case.cols)),
         };
         let identity = run.factors();
         match case.uv {
@@ -89,46 +97,66 @@ impl From<Case> for Run {
     }
 }
 
-/// The reply that is stored with a run. Beside the accumulating call the plain one is replayed, which
-/// has no 4 and 5; it must get the same.
-pub fn reply(run: &Run) -> Reply {
-    let reply = run.reply(run.kept);
-    if run.kept && ![4, 5].contains(&reply.report.number) {
-        let plain = run.reply(false);
+/// What is stored with a run: the reply of the accumulating call, or of the plain one where that alone
+/// is made, and the reply of the ordered call.
+#[derive(Clone, Debug)]
+pub struct Told {
+    pub first: Reply,
+    pub ordered: Option<Reply>,
+}
+
+impl Told {
+    /// How many entries of lists `entry` tells apart.
+    pub fn entries(&self) -> usize {
+        let replies = [Some(&self.first), self.ordered.as_ref()];
+        let lists = |reply: &Reply| reply.u.len() + reply.v.len() + reply.values.len();
+        self.first.matrix.len() + replies.into_iter().flatten().map(lists).sum::<usize>()
+    }
+}
+
+/// What is stored with a run. Beside the accumulating call the plain one is replayed; it must get the
+/// same, but for the numbers that it has not.
+pub fn told(run: &Run) -> Told {
+    let first = run.reply(run.call.min(Call::Accumulating));
+    if run.call.keeps() && Call::Plain.has(first.report.number) {
+        let plain = run.reply(Call::Plain);
         assert!(
-            plain.report == reply.report && alike(&plain.matrix, &reply.matrix),
+            plain.report == first.report && alike(&plain.matrix, &first.matrix),
             "plain and accumulating call differ: {}",
             run.told()
         );
     }
-    reply
+    let ordered = (run.call == Call::Ordered).then(|| run.ordered(&first));
+    Told { first, ordered }
 }
 
-/// A run with a reply, as words. `differ` is how many of the run's calls have to differ from the reply: 0, or more where
-/// it is wrong on purpose.
-pub fn words(run: &Run, reply: &Reply, differ: u64) -> Vec<u64> {
+/// A run with what is told of it, as words. `differ` is how many of the run's calls have to differ from that: 0, or more
+/// where it is wrong on purpose. What the list of values holds at first is not stored: the program fills it by itself.
+pub fn words(run: &Run, told: &Told, differ: u64) -> Vec<u64> {
     let s = &run.settings;
-    let given = run.kept && matches!(run.start, Start::Given(..));
-    let (u, v) = if run.kept {
-        run.factors()
-    } else {
-        Default::default()
-    };
-    let lists = [&run.matrix, &u, &v];
+    let given = run.call.keeps() && matches!(run.start, Start::Given(..));
+    let lent = run.lent(run.call);
+    let lists = [&lent.matrix, &lent.u, &lent.v, &lent.values];
     assert!(lists.iter().all(|list| list.len() <= LONGEST), "too long");
     let mut words = [run.rows, run.cols, s.limit, s.credit]
         .map(|count| count as u64)
         .to_vec();
     words.extend([s.tolerance, s.absolute, s.floor].map(f64::to_bits));
-    words.extend([run.kept, given].map(u64::from));
+    words.extend([run.call as u64, u64::from(given)]);
     words.extend(lists.map(|list| list.len() as u64));
     words.push(differ);
     let before = &lists[..if given { 3 } else { 1 }];
     words.extend(before.iter().copied().flatten().map(|x| x.to_bits()));
-    words.extend(reply.report.words());
-    if reply.report.number == 0 {
-        let after = [&reply.matrix, &reply.u, &reply.v];
-        words.extend(after.into_iter().flatten().map(|&x| bits(x)));
+    let mut answer = |reply: &Reply, after: &[&Vec<f64>]| {
+        words.extend(reply.report.words());
+        if reply.report.number == 0 {
+            words.extend(after.iter().copied().flatten().map(|&x| bits(x)));
+        }
+    };
+    let Told { first, ordered } = told;
+    answer(first, &[&first.matrix, &first.u, &first.v]);
+    if let Some(ordered) = ordered {
+        answer(ordered, &[&ordered.values, &ordered.u, &ordered.v]);
     }
     words
 }
@@ -143,31 +171,58 @@ fn bits(x: f64) -> u64 {
 }
 
 /// How many of the run's calls differ from what is told of it.
-fn differing(run: &Run, told: &Reply) -> u64 {
-    let refused = told.report.number != 0;
-    let differs = |reply: &Reply, told: &Reply| {
+fn differing(run: &Run, told: &Told) -> u64 {
+    let differs = |call: Call, must: &Reply| {
+        let got = run.reply(call);
         let lists = [
-            (&reply.matrix, &told.matrix),
-            (&reply.u, &told.u),
-            (&reply.v, &told.v),
+            (&got.matrix, &must.matrix),
+            (&got.u, &must.u),
+            (&got.v, &must.v),
+            (&got.values, &must.values),
         ];
-        reply.report != told.report || !(refused || lists.iter().all(|(a, b)| alike(a, b)))
+        u64::from(got.report != must.report || !lists.iter().all(|(a, b)| alike(a, b)))
     };
-    let first = differs(&run.reply(run.kept), told);
-    let beside = run.kept && ![4, 5].contains(&told.report.number) && {
+    // With a number other than 0 no lists are stored: they are as they were.
+    let left = |call: Call, reply: &Reply| match reply.report.number {
+        0 => reply.clone(),
+        _ => Reply {
+            report: reply.report,
+            ..run.lent(call)
+        },
+    };
+    let call = run.call.min(Call::Accumulating);
+    let first = left(call, &told.first);
+    let mut many = differs(call, &first);
+    if call.keeps() && Call::Plain.has(first.report.number) {
         let plain = Reply {
-            u: Vec::new(),
-            v: Vec::new(),
-            ..told.clone()
+            matrix: first.matrix.clone(),
+            report: first.report,
+            ..run.lent(Call::Plain)
         };
-        differs(&run.reply(false), &plain)
-    };
-    u64::from(first) + u64::from(beside)
+        many += differs(Call::Plain, &plain);
+    }
+    if let Some(ordered) = &told.ordered {
+        let mut must = left(Call::Ordered, ordered);
+        // The ordered call leaves the accumulating one's matrix, and with 12 and 13 its U and V.
+        if [0, 12, 13].contains(&must.report.number) {
+            must.matrix = first.matrix.clone();
+        }
+        if [12, 13].contains(&must.report.number) {
+            (must.u, must.v) = (first.u.clone(), first.v.clone());
+        }
+        many += differs(Call::Ordered, &must);
+    }
+    many
 }
 
-/// One entry of matrix, U and V, in a row; none where there are not so many.
-pub fn entry(reply: &mut Reply, mut at: usize) -> Option<&mut f64> {
-    for list in [&mut reply.matrix, &mut reply.u, &mut reply.v] {
+/// One entry of the lists that are stored after a run, in a row; none where there are not so many.
+pub fn entry(told: &mut Told, mut at: usize) -> Option<&mut f64> {
+    let Told { first, ordered } = told;
+    let mut lists = vec![&mut first.matrix, &mut first.u, &mut first.v];
+    if let Some(ordered) = ordered {
+        lists.extend([&mut ordered.values, &mut ordered.u, &mut ordered.v]);
+    }
+    for list in lists {
         if at < list.len() {
             return Some(&mut list[at]);
         }
@@ -176,63 +231,91 @@ pub fn entry(reply: &mut Reply, mut at: usize) -> Option<&mut f64> {
     None
 }
 
-/// Runs whose replies are wrong on purpose in one place: each word of the report, its lowest and its highest bit; each
-/// entry of each list, likewise; every bit of one entry of each list; a NaN for a number and a number for a NaN.
-fn replies_wrong(wrong: &mut Vec<(Run, Reply)>) {
-    let accepted = |kept: bool, start: Start| Run {
+/// Runs with answers that are wrong on purpose in one place: each word of the report, its lowest and its highest bit; each
+/// entry of each list, likewise; every bit of one entry of each list; a NaN for a number and a number for a NaN. First of
+/// the plain and the accumulating call, then of the ordered one.
+fn replies_wrong(wrong: &mut Vec<(Run, Told)>) {
+    let accepted = |call: Call, start: &Start| Run {
         rows: 2,
         cols: 2,
         settings: Settings::DEFAULT,
-        kept,
+        call,
         matrix: vec![4.0, -6.0, -8.0, -8.0],
-        start,
+        start: start.clone(),
+        values: unwritten(2),
     };
     let given = Start::Given(vec![2.0, -1.0, 0.5, 3.0], vec![1.0, 7.0, -0.0, 0.25]);
     let bases = [
-        accepted(true, Start::Identity),
-        accepted(true, given),
-        accepted(false, Start::Identity),
+        accepted(Call::Accumulating, &Start::Identity),
+        accepted(Call::Accumulating, &given),
+        accepted(Call::Plain, &Start::Identity),
     ];
-    let refused = |number: u64| {
-        let such = |(told, run): &(u64, Run)| *told == number && run.kept;
-        refusals::all().into_iter().find(such).expect("one").1
+    let answering = |call: Call, number: u64| {
+        let such = |(of, told, _): &(Call, u64, Run)| (*of, *told) == (call, number);
+        let found = refusals::all().into_iter().find(such).expect("one").2;
+        Run { call, ..found }
     };
-    let mut add = |run: &Run, change: &dyn Fn(&mut Reply)| {
-        let mut told = reply(run);
+    let mut add = |run: &Run, change: &dyn Fn(&mut Told)| {
+        let mut told = told(run);
         change(&mut told);
         wrong.push((run.clone(), told));
     };
-    for run in bases.iter().chain(&[refused(8), refused(4), refused(1)]) {
-        for (word, bit) in (0..Report::NAMES.len()).flat_map(|word| [(word, 0), (word, 63)]) {
-            add(run, &|told| told.flip(word, bit));
+    let flips = || (0..Report::NAMES.len()).flat_map(|word| [(word, 0), (word, 63)]);
+    let refused = [8, 4, 1].map(|number| answering(Call::Accumulating, number));
+    for run in bases.iter().chain(&refused) {
+        for (word, bit) in flips() {
+            add(run, &|told| told.first.flip(word, bit));
         }
     }
-    let flip = |entry: &mut f64, bit: usize| *entry = f64::from_bits(entry.to_bits() ^ 1 << bit);
+    let flip = |told: &mut Told, at: usize, bit: usize| {
+        let entry = entry(told, at).expect("an entry");
+        *entry = f64::from_bits(entry.to_bits() ^ 1 << bit);
+    };
     for run in &bases {
-        let many = reply(run).matrix.len() + reply(run).u.len() + reply(run).v.len();
+        let many = told(run).entries();
         for (at, bit) in (0..many).flat_map(|at| [(at, 0), (at, 63)]) {
-            add(run, &|told| flip(entry(told, at).expect("an entry"), bit));
+            add(run, &|told| flip(told, at, bit));
         }
     }
-    for (at, bit) in [0, 4, 8]
-        .into_iter()
-        .flat_map(|at| (1..63).map(move |bit| (at, bit)))
-    {
-        add(&bases[0], &|told| {
-            flip(entry(told, at).expect("an entry"), bit)
-        });
+    for at in [0, 4, 8] {
+        for bit in 1..63 {
+            add(&bases[0], &|told| flip(told, at, bit));
+        }
     }
-    add(&bases[0], &|told| told.u[0] = f64::NAN);
-    let nan = |run: &Run| run.matrix.len() < 10 && reply(run).u.iter().any(|x| x.is_nan());
+    add(&bases[0], &|told| told.first.u[0] = f64::NAN);
+    let nan = |run: &Run| run.matrix.len() < 10 && told(run).first.u.iter().any(|x| x.is_nan());
     let with_nan = stored().into_iter().find(nan).expect("a run with a NaN");
+    let with_nan = Run {
+        call: Call::Accumulating,
+        ..with_nan
+    };
     add(&with_nan, &|told| {
-        let found = told.u.iter_mut().find(|x| x.is_nan());
+        let found = told.first.u.iter_mut().find(|x| x.is_nan());
         *found.expect("a NaN") = 0.0;
     });
+
+    let in_order = accepted(Call::Ordered, &given);
+    let stopped = answering(Call::Ordered, 12);
+    fn ordered(told: &mut Told) -> &mut Reply {
+        told.ordered.as_mut().expect("the ordered call's")
+    }
+    for run in [&in_order, &answering(Call::Ordered, 11), &stopped] {
+        for (word, bit) in flips() {
+            add(run, &|told| ordered(told).flip(word, bit));
+        }
+    }
+    for (at, bit) in (0..told(&in_order).entries()).flat_map(|at| [(at, 0), (at, 63)]) {
+        add(&in_order, &|told| flip(told, at, bit));
+    }
+    add(&in_order, &|told| ordered(told).values[1] = f64::NAN);
+    // After 12 matrix, U and V are held against those of the accumulating call.
+    for at in [0, 4, 8] {
+        add(&stopped, &|told| flip(told, at, 0));
+    }
 }
 
 /// Runs that are not those of their replies: one thing that is handed to the call is another, each once.
-fn runs_wrong(wrong: &mut Vec<(Run, Reply)>) {
+fn runs_wrong(wrong: &mut Vec<(Run, Told)>) {
     type Change = fn(&mut Run);
     fn lists(run: &mut Run) -> [&mut Vec<f64>; 3] {
         if matches!(run.start, Start::Identity) {
@@ -244,7 +327,7 @@ fn runs_wrong(wrong: &mut Vec<(Run, Reply)>) {
         };
         [&mut run.matrix, u, v]
     }
-    let changes: [Change; 16] = [
+    let kept: [Change; 16] = [
         |run| run.rows += 1,
         |run| run.cols += 1,
         |run| run.settings.limit = 0,
@@ -258,35 +341,48 @@ fn runs_wrong(wrong: &mut Vec<(Run, Reply)>) {
         |run| lists(run)[0].push(0.0),
         |run| lists(run)[1].push(0.0),
         |run| lists(run)[2].push(0.0),
-        |run| {
-            lists(run)[0].pop();
-        },
-        |run| {
-            lists(run)[1].pop();
-        },
-        |run| {
-            lists(run)[2].pop();
-        },
+        |run| _ = lists(run)[0].pop(),
+        |run| _ = lists(run)[1].pop(),
+        |run| _ = lists(run)[2].pop(),
     ];
+    let listed: [Change; 2] = [|run| run.values.push(0.0), |run| _ = run.values.pop()];
+    let kept = kept.map(|change| (Call::Accumulating, change));
+    let listed = listed.map(|change| (Call::Ordered, change));
     let runs = stored();
-    for change in changes {
+    for (call, change) in kept.into_iter().chain(listed) {
         let changed = |right: &Run| {
-            let (mut run, mut told) = (right.clone(), reply(right));
+            let mut run = Run {
+                call,
+                ..right.clone()
+            };
+            let mut told = told(&run);
+            let accepted = |reply: &Reply| reply.report.number == 0;
+            if !accepted(&told.first) || !told.ordered.iter().all(accepted) {
+                return None;
+            }
             change(&mut run);
             // What is told of a list is as long as the list.
-            let (u, v) = run.factors();
-            told.matrix.resize(run.matrix.len(), 0.0);
-            told.u.resize(u.len(), 0.0);
-            told.v.resize(v.len(), 0.0);
-            (told.report.number == 0 && differing(&run, &told) > 0).then_some((run, told))
+            let lent = run.lent(call);
+            for reply in [Some(&mut told.first), told.ordered.as_mut()]
+                .into_iter()
+                .flatten()
+            {
+                reply.matrix.resize(lent.matrix.len(), 0.0);
+                reply.u.resize(lent.u.len(), 0.0);
+                reply.v.resize(lent.v.len(), 0.0);
+            }
+            if let Some(reply) = &mut told.ordered {
+                reply.values.resize(lent.values.len(), 0.0);
+            }
+            (differing(&run, &told) > 0).then_some((run, told))
         };
-        let fit = |run: &&Run| run.kept && (2..10).contains(&run.matrix.len());
+        let fit = |run: &&Run| run.call.keeps() && (2..10).contains(&run.matrix.len());
         wrong.push(runs.iter().filter(fit).find_map(changed).expect("a run"));
     }
 }
 
 /// The runs that are wrong on purpose, each a right one with one change.
-pub fn wrong() -> Vec<(Run, Reply)> {
+pub fn wrong() -> Vec<(Run, Told)> {
     let mut wrong = Vec::new();
     replies_wrong(&mut wrong);
     runs_wrong(&mut wrong);
@@ -314,7 +410,7 @@ pub fn write_stored(out: &mut impl Write) -> io::Result<()> {
 /// Writes the runs with their replies, one by one.
 pub fn write(runs: impl Iterator<Item = Run>, out: &mut impl Write) -> io::Result<()> {
     for run in runs {
-        out.write_all(&bytes(words(&run, &reply(&run), 0)))?;
+        out.write_all(&bytes(words(&run, &told(&run), 0)))?;
     }
     Ok(())
 }
@@ -322,16 +418,18 @@ pub fn write(runs: impl Iterator<Item = Run>, out: &mut impl Write) -> io::Resul
 /// The line that the program prints of these runs, and so many that are wrong on purpose, where all is as it should be.
 pub fn summary(runs: impl Iterator<Item = Run>, wrong: usize) -> String {
     let mut by_word = [0; 3];
-    let mut passes = 0;
+    let (mut passes, mut in_order) = (0, 0);
     for run in runs {
-        let report = reply(&run).report;
-        by_word[report.word as usize] += 1;
-        passes += report.passes;
+        let Told { first, ordered } = told(&run);
+        by_word[first.report.word as usize] += 1;
+        passes += first.report.passes;
+        in_order += u64::from(ordered.is_some_and(|reply| reply.report.number == 0));
     }
     let [refused, settled, stopped] = by_word;
     let many: u64 = by_word.iter().sum();
     format!(
-        "{many} runs: {refused} refused, {settled} settled, {stopped} stopped, {passes} passes, 0 differ; {wrong} wrong on purpose, {wrong} found\n"
+        "{many} runs: {refused} refused, {settled} settled, {stopped} stopped, {passes} passes, {in_order} in order, \
+         0 differ; {wrong} wrong on purpose, {wrong} found\n"
     )
 }
 

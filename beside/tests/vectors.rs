@@ -1,9 +1,9 @@
 //! The stored runs are what the program writes, their replies keep the rules, and a fault in one bit
 //! of a reply is seen.
 
-use beside::run::{Reply, Run, Start};
+use beside::run::{Call, Reply, Run, Start};
 use beside::vectors::{
-    LONGEST, entry, reply, stored, stored_summary, words, write, write_stored, wrong,
+    LONGEST, Told, entry, stored, stored_summary, told, words, write, write_stored, wrong,
 };
 use beside::{Report, Settings, cases, refusals};
 use std::fs;
@@ -34,11 +34,16 @@ fn the_words_of_a_run() {
     let tolerance = 0x3DDB_7CDF_D9D7_BDBB;
     let absolute = 0x3D71_9799_812D_EA11;
     let floor = 1 << 52;
-    let head = [2, 2, 100, 50, tolerance, absolute, floor, 1, 0, 4, 4, 4, 0];
+    let head = [
+        2, 2, 100, 50, tolerance, absolute, floor, 2, 0, 4, 4, 4, 2, 0,
+    ];
     let report = [0, 0, 1, 1, 0, 1, 1];
     let mut right = [&head[..], &[two, 0, 0, one], &report].concat();
     right.extend([minus_two, 0, 0, one, minus_one, 0, 0, one, one, 0, 0, one]);
-    assert_eq!(words(&run, &reply(&run), 0), right);
+    // The first column of U is negated: it is the identity again, but for the sign of its zero.
+    right.extend(report);
+    right.extend([two, one, one, 0, 1 << 63, one, one, 0, 0, one]);
+    assert_eq!(words(&run, &told(&run), 0), right);
     let bytes: Vec<u8> = right.into_iter().flat_map(u64::to_le_bytes).collect();
     let mut out = Vec::new();
     write([run].into_iter(), &mut out).unwrap();
@@ -51,16 +56,39 @@ fn the_words_of_a_refusal() {
         rows: 1 << 63,
         cols: 2,
         settings: Settings::LOW_FLOOR,
-        kept: true,
+        call: Call::Ordered,
         matrix: vec![f64::INFINITY],
         start: Start::Given(vec![], vec![1.0, 2.0]),
+        values: vec![7.0; 3],
     };
-    let words = words(&run, &reply(&run), 0);
+    let refused = [2, 0, 0, 0, 0, 0, 0];
     let (one, two) = (1f64.to_bits(), 2f64.to_bits());
-    assert_eq!(words[..2], [1 << 63, 2]);
-    assert_eq!(words[7..13], [1, 1, 1, 0, 2, 0]);
-    assert_eq!(words[13..16], [0x7FF0_0000_0000_0000, one, two]);
-    assert_eq!(words[16..], [2, 0, 0, 0, 0, 0, 0]);
+    let all = words(&run, &told(&run), 0);
+    assert_eq!(all[..2], [1 << 63, 2]);
+    assert_eq!(all[7..14], [2, 1, 1, 0, 2, 3, 0]);
+    assert_eq!(all[14..17], [0x7FF0_0000_0000_0000, one, two]);
+    assert_eq!(all[17..], [refused, refused].concat());
+    let kept = Run {
+        call: Call::Accumulating,
+        ..run
+    };
+    let fewer = words(&kept, &told(&kept), 0);
+    assert_eq!(fewer[7..14], [1, 1, 1, 0, 2, 0, 0]);
+    assert_eq!(fewer[14..], all[14..24]);
+}
+
+/// With 12 the ordered call has the accumulating one's words but for the number, and no lists.
+#[test]
+fn the_words_of_a_run_that_stopped() {
+    let none = Settings {
+        limit: 0,
+        ..Settings::DEFAULT
+    };
+    let run = Run::from(cases::case(2, 2, &[2.0, 0.0, 0.0, 1.0], none));
+    let all = words(&run, &told(&run), 0);
+    let stopped = [0, 0, 2, 0, 0, 0, 2];
+    assert_eq!(all[18..25], stopped);
+    assert_eq!(all[37..], [&[12], &stopped[1..]].concat());
 }
 
 #[test]
@@ -71,20 +99,24 @@ fn each_run_ends_where_the_next_begins() {
         .collect();
     let (mut at, mut runs, mut marked) = (0, 0, 0);
     while at < words.len() {
-        let head = &words[at..at + 13];
-        let [kept, start, matrix, u, v, differ] = head[7..] else {
+        let head = &words[at..at + 14];
+        let [call, start, matrix, u, v, values, differ] = head[7..] else {
             unreachable!()
         };
-        assert!(differ <= 1 + kept);
-        assert!(kept <= 1 && start <= kept);
-        assert!([matrix, u, v].iter().all(|&n| n <= LONGEST as u64));
-        assert!(kept == 1 || (u, v) == (0, 0));
-        at += 13 + (matrix + start * (u + v)) as usize;
-        let number = words[at];
-        assert!(differ > 0 || number <= 8);
-        at += Report::NAMES.len();
-        if number == 0 {
-            at += (matrix + u + v) as usize;
+        assert!(call <= 2 && start <= call && differ <= 1 + call);
+        assert!([matrix, u, v, values].iter().all(|&n| n <= LONGEST as u64));
+        assert!(call >= 1 || (u, v) == (0, 0));
+        assert!(call == 2 || values == 0);
+        at += 14 + (matrix + start * (u + v)) as usize;
+        let mut answer = |known: &[u64], lists: u64| {
+            let number = words[at];
+            assert!(differ > 0 || known.contains(&number));
+            at += Report::NAMES.len() + if number == 0 { lists as usize } else { 0 };
+        };
+        answer(&[0, 1, 2, 3, 4, 5, 6, 7, 8], matrix + u + v);
+        if call == 2 {
+            let known = [0, 1, 2, 3, 4, 5, 6, 7, 8, 11, 12, 13];
+            answer(&known, values + u + v);
         }
         if differ == 0 {
             assert_eq!(marked, 0, "the right ones come first");
@@ -98,37 +130,52 @@ fn each_run_ends_where_the_next_begins() {
     assert_eq!((runs, marked), (stored().len(), wrong().len() + 1));
 }
 
-/// Another value of one bit of an entry.
-fn flip(reply: &mut Reply, at: usize, bit: usize) {
-    let entry = entry(reply, at).unwrap();
-    *entry = f64::from_bits(entry.to_bits() ^ 1 << bit);
-}
-
+/// Each bit that is told of a run is one of its words, where the program looks for it.
 #[test]
 fn a_bit_of_a_reply_is_seen() {
     for run in stored().iter().filter(|run| run.matrix.len() <= 16) {
-        let right = reply(run);
+        let right = told(run);
         let first = words(run, &right, 0);
-        let seen = |change: &dyn Fn(&mut Reply), place: usize| {
+        let seen = |change: &dyn Fn(&mut Told), places: &[usize]| {
             let mut wrong = right.clone();
             change(&mut wrong);
             let other = words(run, &wrong, 0);
             assert_eq!(other.len(), first.len());
             let differ = (0..first.len()).filter(|&at| other[at] != first[at]);
-            assert_eq!(differ.collect::<Vec<usize>>(), [place]);
+            assert_eq!(differ.collect::<Vec<usize>>(), places);
         };
-        let entries = match right.report.number {
-            0 => right.matrix.len() + right.u.len() + right.v.len(),
-            _ => 0,
+        let report = Report::NAMES.len();
+        // How many entries are told of a call, and how many of them are stored.
+        let lists = |reply: &Reply, matrix: usize| {
+            let many = matrix + reply.u.len() + reply.v.len() + reply.values.len();
+            (many, if reply.report.number == 0 { many } else { 0 })
         };
-        let lists = first.len() - entries;
-        for at in (0..entries).filter(|at| first[lists + at] != 0x7FF8_0000_0000_0000) {
-            seen(&|reply| flip(reply, at, 0), lists + at);
-            seen(&|reply| flip(reply, at, 63), lists + at);
+        let (many, kept) = lists(&right.first, right.first.matrix.len());
+        let ordered = right.ordered.as_ref().map(|reply| lists(reply, 0));
+        let end = first.len() - ordered.map_or(0, |(_, stored)| report + stored);
+        let begin = end - report - kept;
+        for at in 1..report {
+            seen(&|told| told.first.flip(at, 0), &[begin + at]);
+            if ordered.is_some() {
+                let flip = |told: &mut Told| told.ordered.as_mut().unwrap().flip(at, 0);
+                seen(&flip, &[end + at]);
+            }
         }
-        let many = Report::NAMES.len();
-        for at in 1..many {
-            seen(&|reply| reply.flip(at, 0), lists - many + at);
+        for at in 0..right.entries() {
+            let place = if at < many {
+                (kept > 0).then_some(begin + report + at)
+            } else {
+                ordered.and_then(|(_, stored)| (stored > 0).then_some(end + report + at - many))
+            };
+            let nan = entry(&mut right.clone(), at).unwrap().is_nan();
+            for bit in [0, 63] {
+                let flip = |told: &mut Told| {
+                    let entry = entry(told, at).unwrap();
+                    *entry = f64::from_bits(entry.to_bits() ^ 1 << bit);
+                };
+                let places: Vec<usize> = place.filter(|_| !nan).into_iter().collect();
+                seen(&flip, &places);
+            }
         }
     }
 }
@@ -137,9 +184,9 @@ fn a_bit_of_a_reply_is_seen() {
 fn nans_are_alike() {
     let run = Run::from(cases::case(1, 1, &[3.0], Settings::DEFAULT));
     let with = |bits: u64| {
-        let mut reply = reply(&run);
-        reply.matrix[0] = f64::from_bits(bits);
-        words(&run, &reply, 0)
+        let mut told = told(&run);
+        told.first.matrix[0] = f64::from_bits(bits);
+        words(&run, &told, 0)
     };
     assert_eq!(with(0x7FF8_0000_0000_0000), with(0xFFF0_0000_0000_0001));
     assert_ne!(with(0x7FF8_0000_0000_0000), with(0x7FF0_0000_0000_0000));
@@ -147,8 +194,12 @@ fn nans_are_alike() {
 
 #[test]
 fn refused_as_told() {
-    for (told, run) in refusals::all() {
-        assert_eq!(reply(&run).report.number, told, "{run:?}");
+    for (call, told, run) in refusals::all() {
+        assert_eq!(run.reply(call).report.number, told, "{run:?}");
+        // What the accumulating call refuses, the ordered one does.
+        if call == Call::Accumulating && told != 0 {
+            assert_eq!(run.reply(Call::Ordered).report.number, told, "{run:?}");
+        }
     }
 }
 
@@ -162,17 +213,22 @@ fn the_first_bad_reading_counts() {
             place: place as u64,
             ..Report::default()
         };
-        assert_eq!(reply(&run).report, refused);
+        for call in [Call::Plain, Call::Accumulating, Call::Ordered] {
+            assert_eq!(run.reply(call).report, refused);
+        }
     }
 }
 
 #[test]
 fn every_number_is_stored() {
     let told = refusals::all();
-    for kept in [true, false] {
-        for number in (0..=8).filter(|number| kept || ![4, 5].contains(number)) {
-            let such = |(given, run): &&(u64, Run)| *given == number && run.kept == kept;
-            assert!(told.iter().filter(such).count() >= 4, "{number}");
+    for call in [Call::Plain, Call::Accumulating, Call::Ordered] {
+        // The ordered call's are its own.
+        let numbers = (0..=13).filter(|number| ![9, 10].contains(number));
+        let own = |number: &u64| call.has(*number) && (call < Call::Ordered || *number > 8);
+        for number in numbers.filter(own) {
+            let such = |(of, given, _): &&(Call, u64, Run)| (*of, *given) == (call, number);
+            assert!(told.iter().filter(such).count() >= 4, "{call:?} {number}");
         }
     }
 }

@@ -2,11 +2,14 @@
 //! the call must get.
 
 use beside::Report;
-use beside::run::{Reply, Run, alike, untouched};
+use beside::order::{diagonal, places};
+use beside::run::{Call, Reply, Run, alike, untouched, unwritten};
 use merotunki::raw;
 
+mod ordered;
+
 /// What the library replies.
-pub fn library(run: &Run, kept: bool) -> Reply {
+pub fn library(run: &Run, call: Call) -> Reply {
     let s = &run.settings;
     let choice = raw::Choice {
         limit: s.limit as u64,
@@ -15,19 +18,28 @@ pub fn library(run: &Run, kept: bool) -> Reply {
         absolute: s.absolute,
         floor: s.floor,
     };
-    let mut matrix = run.matrix.clone();
-    let (mut u, mut v) = (Vec::new(), Vec::new());
-    let answer = if kept {
-        (u, v) = run.factors();
-        raw::full_svd(&mut matrix, (&mut u, &mut v), run.rows, run.cols, choice)
-    } else {
-        raw::svd(&mut matrix, run.rows, run.cols, choice)
+    let Reply {
+        mut matrix,
+        mut u,
+        mut v,
+        mut values,
+        ..
+    } = run.lent(call);
+    let (rows, cols) = (run.rows, run.cols);
+    let answer = match call {
+        Call::Plain => raw::svd(&mut matrix, rows, cols, choice),
+        Call::Accumulating => raw::full_svd(&mut matrix, (&mut u, &mut v), rows, cols, choice),
+        Call::Ordered => {
+            let factors = (&mut u[..], &mut v[..]);
+            ordered::ordered_svd(&mut matrix, factors, &mut values, rows, cols, choice)
+        }
     };
     Reply {
         report: answer.words().into(),
         matrix,
         u,
         v,
+        values,
     }
 }
 
@@ -38,28 +50,30 @@ fn differs(got: &Reply, must: &Reply) -> Option<String> {
     if let Some(at) = words.position(|(got, must)| got != must) {
         return Some(format!("the report's {}", Report::NAMES[at]));
     }
+    // A call that is refused before its run writes nothing, and one that is refused after it no values.
+    let (made, taken) = (must.report.word != 0, must.report.number == 0);
     let lists = [
-        ("matrix", &got.matrix, &must.matrix),
-        ("U", &got.u, &must.u),
-        ("V", &got.v, &must.v),
+        ("matrix", &got.matrix, &must.matrix, made),
+        ("U", &got.u, &must.u, made),
+        ("V", &got.v, &must.v, made),
+        ("list of values", &got.values, &must.values, taken),
     ];
-    let refused = must.report.number != 0;
-    let fit = |got: &[f64], must: &[f64]| {
-        if refused {
-            untouched(got, must)
-        } else {
+    let fit = |got: &[f64], must: &[f64], written: bool| {
+        if written {
             alike(got, must)
+        } else {
+            untouched(got, must)
         }
     };
     lists
         .into_iter()
-        .find(|(_, got, must)| !fit(got, must))
+        .find(|&(_, got, must, written)| !fit(got, must, written))
         .map(|(name, ..)| name.to_string())
 }
 
 /// The laws of an accepted reply, on the library's own replies: the counts, the bound, credit 0, and
 /// the same answer at a greater limit once it is settled.
-fn breaks(run: &Run, kept: bool, got: &Reply, greater: Option<usize>) -> Option<&'static str> {
+fn breaks(run: &Run, call: Call, got: &Reply, greater: Option<usize>) -> Option<&'static str> {
     let Report {
         word,
         passes,
@@ -85,12 +99,8 @@ fn breaks(run: &Run, kept: bool, got: &Reply, greater: Option<usize>) -> Option<
     let limit = greater.filter(|_| word == Report::SETTLED)?;
     let mut again = run.clone();
     again.settings.limit = limit;
-    let later = library(&again, kept);
-    (later.report != got.report
-        || !alike(&later.matrix, &got.matrix)
-        || !alike(&later.u, &got.u)
-        || !alike(&later.v, &got.v))
-    .then_some("law of greater limits")
+    let later = library(&again, call);
+    differs(&later, got).map(|_| "law of greater limits")
 }
 
 fn reached(run: &Run, got: &Reply) -> bool {
@@ -112,6 +122,105 @@ pub struct Seen {
     /// A NaN or an infinity in the table afterwards.
     pub nan: bool,
     pub infinite: bool,
+    /// Of the ordered call, where it was made.
+    pub order: Option<Order>,
+}
+
+/// What was seen of the ordered call: its number, and of the diagonal after the run what the order
+/// depends on.
+#[derive(Clone, Debug)]
+pub struct Order {
+    number: u64,
+    /// A number besides 11 applies, and 11 applies.
+    two: bool,
+    /// There is more than one value.
+    several: bool,
+    /// The new order is another than the old one.
+    moved: bool,
+    /// Two values have the same magnitude, and it is not 0.
+    equal: bool,
+    /// Two values are 0, of whichever sign.
+    zeros: bool,
+    /// A value is below zero.
+    negative: bool,
+    minus_zero: bool,
+}
+
+/// What ordered calls can meet, and which of them do.
+pub const MEETINGS: [(&str, fn(&Order) -> bool); 13] = [
+    ("values in order", |order| order.number == 0),
+    ("in order, more than one value", |order| {
+        order.number == 0 && order.several
+    }),
+    ("in order, columns moved", |order| {
+        order.number == 0 && order.moved
+    }),
+    ("in order, equal magnitudes other than 0", |order| {
+        order.number == 0 && order.equal
+    }),
+    ("in order, more than one 0 or -0", |order| {
+        order.number == 0 && order.zeros
+    }),
+    ("in order, a value below zero", |order| {
+        order.number == 0 && order.negative
+    }),
+    ("in order, a value of -0", |order| {
+        order.number == 0 && order.minus_zero
+    }),
+    ("refused 11", |order| order.number == 11),
+    ("refused 11, with 6, 7 or 8 as well", |order| {
+        order.number == 11 && order.two
+    }),
+    ("refused 1 to 5, with 11 as well", |order| {
+        order.number <= 5 && order.two
+    }),
+    ("refused 12", |order| order.number == 12),
+    ("refused 13", |order| order.number == 13),
+    ("refused 13, more than one value", |order| {
+        order.number == 13 && order.several
+    }),
+];
+
+impl Order {
+    /// From the reply of the accumulating call and the ordered call's number.
+    fn of(run: &Run, kept: &Reply, number: u64) -> Order {
+        let values = match kept.report.number {
+            0 => diagonal(run.rows, run.cols, &kept.matrix),
+            _ => Vec::new(),
+        };
+        let sorted: Vec<f64> = places(&values)
+            .into_iter()
+            .map(|at| values[at].abs())
+            .collect();
+        let pairs = || sorted.windows(2).filter(|two| two[0] == two[1]);
+        let unfit = run.refusal(Call::Accumulating).is_some();
+        let listed = run.values.len() == run.rows.min(run.cols);
+        Order {
+            number,
+            two: unfit && !listed,
+            several: values.len() > 1,
+            moved: !places(&values).is_sorted(),
+            equal: pairs().any(|two| two[0] != 0.0),
+            zeros: pairs().any(|two| two[0] == 0.0),
+            negative: values.iter().any(|&value| value < 0.0),
+            minus_zero: values
+                .iter()
+                .any(|&value| value == 0.0 && value.is_sign_negative()),
+        }
+    }
+}
+
+/// Whether the reply of another call has the accumulating call's report and matrix. Each of the other
+/// calls has numbers of its own: 4 and 5 are none of the plain one's; before the run 11 is the ordered
+/// one's alone, and after it 12 and 13 are, in place of 0.
+fn agrees(kept: &Reply, other: &Reply, call: Call) -> bool {
+    let mut report = other.report;
+    if [12, 13].contains(&report.number) {
+        report.number = 0;
+    }
+    !call.has(kept.report.number)
+        || !Call::Accumulating.has(report.number)
+        || (report == kept.report && alike(&other.matrix, &kept.matrix))
 }
 
 /// Makes the calls of the run and holds them against the original and the laws. The error names the
@@ -119,39 +228,44 @@ pub struct Seen {
 pub fn check(run: &Run, greater: Option<usize>) -> Result<Seen, String> {
     let greater = greater.filter(|&limit| limit > run.settings.limit);
     let mut seen = Seen::default();
-    let mut before: Option<Reply> = None;
-    for kept in [true, false] {
-        if kept && !run.kept {
-            continue;
-        }
-        let call = if kept { "accumulating" } else { "plain" };
-        let got = library(run, kept);
-        let must = run.reply(kept);
+    // The accumulating call's reply, by the library and by the original.
+    let mut before: Option<(Reply, Reply)> = None;
+    let calls = [Call::Accumulating, Call::Ordered, Call::Plain];
+    for call in calls.into_iter().filter(|&call| call <= run.call) {
+        let name = call.name();
+        let got = library(run, call);
+        let must = match &before {
+            Some((_, kept)) if call == Call::Ordered => run.ordered(kept),
+            _ => run.reply(call),
+        };
         seen.calls += 1;
         if let Some(what) = differs(&got, &must) {
             return Err(format!(
-                "{call} call: {what} differs\n  original {:?}\n  library  {:?}\n",
+                "{name} call: {what} differs\n  original {:?}\n  library  {:?}\n",
                 must.report, got.report
             ));
         }
         if got.report.number == 0 {
-            if let Some(law) = breaks(run, kept, &got, greater) {
-                return Err(format!("{call} call: {law}, {:?}\n", got.report));
+            if let Some(law) = breaks(run, call, &got, greater) {
+                return Err(format!("{name} call: {law}, {:?}\n", got.report));
             }
             seen.greater |= greater.is_some() && got.report.word == Report::SETTLED;
             seen.reached |= reached(run, &got);
         }
-        if let Some(full) = &before
-            && ![4, 5].contains(&full.report.number)
-            && (full.report != got.report || !alike(&full.matrix, &got.matrix))
-        {
-            return Err("law of the two calls: plain and accumulating differ\n".to_string());
-        }
-        if before.is_none() {
+        if let Some((kept, _)) = &before {
+            if !agrees(kept, &got, call) {
+                return Err(format!(
+                    "law of the calls: {name} and accumulating differ\n"
+                ));
+            }
+            if call == Call::Ordered {
+                seen.order = Some(Order::of(run, kept, got.report.number));
+            }
+        } else {
             seen.report = got.report;
             seen.nan = got.matrix.iter().any(|value| value.is_nan());
             seen.infinite = got.matrix.iter().any(|value| value.is_infinite());
-            before = Some(got);
+            before = Some((got, must));
         }
     }
     Ok(seen)
@@ -196,6 +310,9 @@ fn without(run: &Run, i: usize, row: bool) -> Run {
     } else {
         less.cols -= 1;
     }
+    if run.values.len() == rows.min(cols) {
+        less.values.truncate(less.rows.min(less.cols));
+    }
     less
 }
 
@@ -211,8 +328,14 @@ fn simpler(run: &Run) -> Vec<Run> {
     let sized = (1..=48).contains(&run.rows) && (1..=48).contains(&run.cols);
     let whole = sized && run.matrix.len() == run.rows * run.cols;
     let (default, s) = (beside::Settings::DEFAULT, run.settings);
-    if run.kept {
-        with(&|run| run.kept = false);
+    for call in [Call::Plain, Call::Accumulating] {
+        if call < run.call {
+            with(&|run| run.call = call);
+        }
+    }
+    let blank = unwritten(run.rows.min(run.cols).min(48));
+    if !untouched(&run.values, &blank) {
+        with(&|run| run.values = blank.clone());
     }
     if sized && matches!(run.start, Start::Given(..)) {
         with(&|run| run.start = Start::Identity);
@@ -243,6 +366,29 @@ fn simpler(run: &Run) -> Vec<Run> {
             {
                 with(&|run| run.matrix[at] = simple);
             }
+        }
+    }
+    if whole {
+        // All at once: nothing off the diagonal, and every entry of one value made 1.
+        let off = |at: usize| at / run.cols != at % run.cols;
+        let entry = |(at, &value): (usize, &f64)| if off(at) { 0.0 } else { value };
+        let alone: Vec<f64> = run.matrix.iter().enumerate().map(entry).collect();
+        if !untouched(&run.matrix, &alone) {
+            with(&|run| run.matrix = alone.clone());
+        }
+        for one in run
+            .matrix
+            .iter()
+            .filter(|&&value| value.abs() > 0.0 && value != 1.0)
+        {
+            let entry = |value: &f64| {
+                if untouched(&[*value], &[*one]) {
+                    1.0
+                } else {
+                    *value
+                }
+            };
+            with(&|run| run.matrix = run.matrix.iter().map(entry).collect());
         }
     }
     let mut smaller = Vec::new();

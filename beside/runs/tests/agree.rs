@@ -1,35 +1,50 @@
 //! The comparison itself: drawn runs agree, each kind of reply is met, and a reply that is wrong is seen.
 
 use beside::kinds::{Sizes, drawn};
-use beside::run::{Run, Start};
-use beside::{Report, Settings};
-use runs::{check, library, shrunk};
+use beside::run::{Call, Run, Start, unwritten};
+use beside::{Report, Settings, refusals};
+use runs::{MEETINGS, check, library, shrunk};
 
 fn run(rows: usize, cols: usize, matrix: &[f64]) -> Run {
     Run {
         rows,
         cols,
         settings: Settings::DEFAULT,
-        kept: true,
+        call: Call::Ordered,
         matrix: matrix.to_vec(),
         start: Start::Identity,
+        values: unwritten(rows.min(cols)),
     }
 }
 
 #[test]
 fn drawn_runs_agree() {
     let mut numbers = [0; 9];
+    let mut meetings = [0; MEETINGS.len()];
     for number in 0..4_000 {
         let (run, _) = drawn(99, number, Sizes::UpTo(8));
         let seen = check(&run, Some(1_000)).unwrap_or_else(|wrong| panic!("{wrong}{}", run.told()));
         numbers[seen.report.number as usize] += 1;
+        for (many, (_, met)) in meetings.iter_mut().zip(MEETINGS) {
+            *many += u64::from(seen.order.as_ref().is_some_and(met));
+        }
     }
     assert!(numbers.iter().all(|&many| many > 0), "{numbers:?}");
+    assert!(meetings.iter().all(|&many| many > 0), "{meetings:?}");
+}
+
+/// The runs that are refused, at the bounds, and after which the ordered call has 12, 13 or an order.
+#[test]
+fn fixed_runs_agree() {
+    for (call, told, run) in refusals::all() {
+        check(&run, None).unwrap_or_else(|wrong| panic!("{wrong}{}", run.told()));
+        assert_eq!(library(&run, call).report.number, told, "{}", run.told());
+    }
 }
 
 #[test]
 fn the_readme_case() {
-    let reply = library(&run(2, 1, &[3.0, 4.0]), true);
+    let reply = library(&run(2, 1, &[3.0, 4.0]), Call::Ordered);
     let settled = Report {
         word: Report::SETTLED,
         range: 1,
@@ -37,13 +52,14 @@ fn the_readme_case() {
     };
     assert_eq!(reply.report, settled);
     assert_eq!(reply.matrix, [-5.0, 0.0]);
+    assert_eq!(reply.values, [5.0]);
 }
 
 #[test]
 fn a_refused_call_writes_nothing() {
     let mut unfit = run(2, 2, &[1.0, f64::NAN, 3.0, 4.0]);
     unfit.start = Start::Given(vec![f64::NAN; 4], vec![7.0; 4]);
-    let reply = library(&unfit, true);
+    let reply = library(&unfit, Call::Ordered);
     let refused = Report {
         number: 8,
         place: 1,

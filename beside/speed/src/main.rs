@@ -1,5 +1,6 @@
 //! speed [REPEATS]: times the original, the proved library, and the same library with the machine's
-//! own root, in one process on the same tables, by turns; prints medians and ratios as a table.
+//! own root, in one process on the same tables, by turns; prints medians and ratios as a table. Then
+//! the same of the library's accumulating call and its ordered one: what the ordering costs.
 
 use beside::Settings;
 use merotunki::raw::{self, Answer};
@@ -41,6 +42,8 @@ unsafe extern "C" {
     fn bare_full_svd(a: *mut Answer, b: *mut f64, n: usize, u: *mut f64, nu: usize, v: *mut f64, nv: usize, r: usize, c: usize, l: usize, k: usize, t: f64, z: f64, f: f64) -> *mut Answer;
     fn counted_svd(a: *mut Answer, b: *mut f64, n: usize, r: usize, c: usize, l: usize, k: usize, t: f64, z: f64, f: f64) -> *mut Answer;
     static counted_roots: u64;
+    // Until the crate in bindings/rust has it.
+    fn merotunki_ordered_svd(a: *mut Answer, b: *mut f64, n: usize, u: *mut f64, nu: usize, v: *mut f64, nv: usize, d: *mut f64, nd: usize, r: usize, c: usize, l: usize, k: usize, t: f64, z: f64, f: f64) -> *mut Answer;
 }
 
 /// A table of ordinary readings, always the same one of its number.
@@ -68,6 +71,7 @@ struct Lent {
     matrix: Vec<f64>,
     u: Vec<f64>,
     v: Vec<f64>,
+    values: Vec<f64>,
     identities: (Vec<f64>, Vec<f64>),
 }
 
@@ -80,6 +84,7 @@ impl Lent {
             matrix: vec![0.0; rows * cols],
             u: identity(rows),
             v: identity(cols),
+            values: vec![0.0; rows.min(cols)],
             identities: (identity(rows), identity(cols)),
         }
     }
@@ -164,6 +169,60 @@ fn library(full: bool, plain: Plain, accumulating: Full) -> impl FnMut(&mut Lent
     }
 }
 
+/// The library's ordered call.
+fn in_order(lent: &mut Lent) {
+    let s = Settings::DEFAULT;
+    let mut answer = Answer::default();
+    // SAFETY: each pointer goes with the length of its own list.
+    unsafe {
+        merotunki_ordered_svd(
+            &mut answer,
+            lent.matrix.as_mut_ptr(),
+            lent.matrix.len(),
+            lent.u.as_mut_ptr(),
+            lent.u.len(),
+            lent.v.as_mut_ptr(),
+            lent.v.len(),
+            lent.values.as_mut_ptr(),
+            lent.values.len(),
+            lent.rows,
+            lent.cols,
+            s.limit,
+            s.credit,
+            s.tolerance,
+            s.absolute,
+            s.floor,
+        );
+    }
+    assert_eq!(answer.number, 0, "a table that is not put in order");
+    black_box(answer);
+}
+
+/// Prints what the ordering costs of an accumulating run: both calls by turns on the same tables.
+fn ordering(rows: usize, cols: usize, repeats: usize) {
+    let lent = &mut Lent::new(rows, cols);
+    let mut accumulating = library(true, raw::merotunki_svd, raw::merotunki_full_svd);
+    let both: Vec<(f64, f64)> = (0..repeats)
+        .map(|_| {
+            let kept = lent.timed(true, &mut accumulating);
+            (kept, lent.timed(true, &mut in_order))
+        })
+        .collect();
+    let kept = 1e6 * median(both.iter().map(|times| times.0).collect());
+    let ordered = 1e6 * median(both.iter().map(|times| times.1).collect());
+    let share = median(
+        both.iter()
+            .map(|(kept, ordered)| (ordered - kept) / kept)
+            .collect(),
+    );
+    println!("\n| table | accumulating, us | ordered, us | the ordering, of the accumulating |");
+    println!("|---|---|---|---|");
+    println!(
+        "| {rows} x {cols} | {kept:.2} | {ordered:.2} | {:.1} % |",
+        100.0 * share
+    );
+}
+
 /// The roots of one call, on the mean over the tables.
 fn roots(lent: &mut Lent) -> f64 {
     // SAFETY: nothing else runs; the count is read after the calls.
@@ -234,4 +293,5 @@ fn main() {
             );
         }
     }
+    ordering(48, 48, repeats);
 }

@@ -10,18 +10,21 @@ use crate::stored::read_answer;
 use crate::stored::read_head;
 use crate::stored::read_list;
 use crate::stored::report_agrees;
+use order::ordered::ordered_svd_decomposition;
 use svd::interface::full_svd_decomposition;
 use svd::interface::svd_decomposition;
 use svd::report::Report;
 ghost use mathlib.Core.Path.{_≡_};
 ghost use lib.ListN.{length};
 
-// What a run came to: whether it is wrong on purpose, whether it agrees, and what the library
-// answered. A wrong run agrees where not as many of its calls differ as are to.
+// What a run came to: whether it is wrong on purpose, whether it agrees, what the accumulating call
+// answered, or the plain one where that alone is made, and whether the ordered call put values in
+// order. A wrong run agrees where not as many of its calls differ as are to.
 pub(crate) struct Made {
     pub(crate) wrong: bool,
     pub(crate) agrees: bool,
     pub(crate) report: Report,
+    pub(crate) in_order: bool,
 }
 
 // What was seen where a run should be; what is malformed may be so on purpose.
@@ -37,33 +40,57 @@ struct Call {
     report: Report,
 }
 
-// Room for the longest list.
+// What the calls of a run but the ordered one came to: the accumulating one, or the plain one where
+// that alone is made, and whether all is as stored of the plain one beside it.
+struct Both {
+    first: Call,
+    beside: bool,
+}
+
+// Room for the longest list, filled with what is never written among the values: a magnitude is not
+// below zero.
 fn blank() -> [f64; 2401]
     ensures { λ r. ⌜ 2401 ≡ length r ⌝ }
 {
-    [0.0; 2401]
+    [-1.0; 2401]
 }
 
 // How many of a run's calls differ.
-fn differing(first: bool, second: bool) -> u64 {
-    if first && second {
+fn differing(first: bool, second: bool, third: bool) -> u64 {
+    if first && second && third {
         return 0;
     }
-    if first || second {
+    if first && second || first && third || second && third {
         return 1;
     }
-    2
+    if first || second || third {
+        return 2;
+    }
+    3
 }
 
-// What a run came to of whose calls so many differ.
-fn judged(head: Head, differ: u64, report: Report) -> Made {
+// What a run came to, of whose ordered call these two are known.
+fn judged(head: Head, both: Both, ordered: bool, in_order: bool) -> Made {
+    let first = both.first;
+    let report = first.report;
     let wrong = head.differ > 0;
-    let as_told = differ == head.differ;
+    let as_told = differing(first.agrees, both.beside, ordered) == head.differ;
     Made {
         wrong,
         agrees: as_told != wrong,
         report,
+        in_order,
     }
+}
+
+// Copies b, u and v onto lists that are as long.
+fn copy_lists(b: &[f64], u: &[f64], v: &[f64], c: &mut [f64], cu: &mut [f64], cv: &mut [f64])
+    requires { ⌜ (length (now b) ≡ length (now c)) × (length (now u) ≡ length (now cu))
+        × (length (now v) ≡ length (now cv)) ⌝ }
+{
+    copy(b, c);
+    copy(u, cu);
+    copy(v, cv);
 }
 
 // The plain call on b, which is to leave what b2 holds.
@@ -74,33 +101,22 @@ fn plain(b: &mut [f64], b2: &[f64], head: Head, answer: &Answer) -> Call {
     Call { agrees, report }
 }
 
-// Whether the plain call on a copy of b, in c, gives the stored report and leaves what b2 holds.
-fn copy_agrees(b: &[f64], c: &mut [f64], b2: &[f64], head: Head, answer: &Answer) -> bool
+// Whether the plain call on a copy of b, in c, gives the stored report and leaves what b2 holds. It
+// has no numbers 4 and 5: where one of them is stored, it is not made.
+fn plain_agrees(b: &[f64], c: &mut [f64], b2: &[f64], head: Head, answer: &Answer) -> bool
     requires { ⌜ length (now b) ≡ length (now c) ⌝ }
 {
+    let number = number_in(answer);
+    if number == 4 || number == 5 {
+        return true;
+    }
     copy(b, c);
     let call = plain(c, b2, head, answer);
     call.agrees
 }
 
-// Whether the plain call gives the stored report and matrix too. It has no numbers 4 and 5: where
-// one of them is stored, it is not made.
-fn plain_agrees(b: &[f64], b2: &[f64], head: Head, answer: &Answer) -> bool {
-    let number = number_in(answer);
-    if number == 4 || number == 5 {
-        return true;
-    }
-    let mut c = blank();
-    let n = b.len();
-    if n > 2401 {
-        return false;
-    }
-    copy_agrees(b, &mut c[..n], b2, head, answer)
-}
-
-// The calls of a run: the plain one alone, or beside it the accumulating one, which is to leave what
-// b2, u2 and v2 hold.
-fn calls(
+// The accumulating call, which is to leave what b2, u2 and v2 hold.
+fn full(
     b: &mut [f64],
     u: &mut [f64],
     v: &mut [f64],
@@ -109,17 +125,106 @@ fn calls(
     v2: &[f64],
     head: Head,
     answer: &Answer,
-) -> Made {
-    if head.kept == 0 {
-        let call = plain(b, b2, head, answer);
-        let report = call.report;
-        return judged(head, differing(call.agrees, true), report);
-    }
-    let beside = plain_agrees(b, b2, head, answer);
+) -> Call {
     let settings = head.settings;
     let report = full_svd_decomposition(b, u, v, head.rows, head.cols, settings);
     let agrees = report_agrees(report, answer) && same(b, b2) && same(u, u2) && same(v, v2);
-    judged(head, differing(agrees, beside), report)
+    Call { agrees, report }
+}
+
+// The ordered call, which is to leave what b2, u2, v2 and values2 hold.
+fn ordered(
+    b: &mut [f64],
+    u: &mut [f64],
+    v: &mut [f64],
+    values: &mut [f64],
+    b2: &[f64],
+    u2: &[f64],
+    v2: &[f64],
+    values2: &[f64],
+    head: Head,
+    answer: &Answer,
+) -> Call {
+    let settings = head.settings;
+    let report = ordered_svd_decomposition(b, u, v, values, head.rows, head.cols, settings);
+    let agrees = report_agrees(report, answer)
+        && same(b, b2)
+        && same(u, u2)
+        && same(v, v2)
+        && same(values, values2);
+    Call { agrees, report }
+}
+
+// The accumulating call on copies of b, u and v, in c, cu and cv.
+fn full_of(
+    b: &[f64],
+    u: &[f64],
+    v: &[f64],
+    c: &mut [f64],
+    cu: &mut [f64],
+    cv: &mut [f64],
+    b2: &[f64],
+    u2: &[f64],
+    v2: &[f64],
+    head: Head,
+    answer: &Answer,
+) -> Call
+    requires { ⌜ (length (now b) ≡ length (now c)) × (length (now u) ≡ length (now cu))
+        × (length (now v) ≡ length (now cv)) ⌝ }
+{
+    copy_lists(b, u, v, c, cu, cv);
+    full(c, cu, cv, b2, u2, v2, head, answer)
+}
+
+// The calls of a run but the ordered one, on copies of b, u and v: the plain one alone, or beside it
+// the accumulating one, which is to leave what b2, u2 and v2 hold.
+fn calls(
+    b: &[f64],
+    u: &[f64],
+    v: &[f64],
+    c: &mut [f64],
+    cu: &mut [f64],
+    cv: &mut [f64],
+    b2: &[f64],
+    u2: &[f64],
+    v2: &[f64],
+    head: Head,
+    answer: &Answer,
+) -> Both
+    requires { ⌜ (length (now b) ≡ length (now c)) × (length (now u) ≡ length (now cu))
+        × (length (now v) ≡ length (now cv)) ⌝ }
+{
+    if head.kept == 0 {
+        copy(b, c);
+        let first = plain(c, b2, head, answer);
+        return Both {
+            first,
+            beside: true,
+        };
+    }
+    let beside = plain_agrees(b, c, b2, head, answer);
+    let first = full_of(b, u, v, c, cu, cv, b2, u2, v2, head, answer);
+    Both { first, beside }
+}
+
+// What a run came to whose ordered call is to leave what b2, u2, v2 and values2 hold.
+fn put_in_order(
+    b: &mut [f64],
+    u: &mut [f64],
+    v: &mut [f64],
+    values: &mut [f64],
+    b2: &[f64],
+    u2: &[f64],
+    v2: &[f64],
+    values2: &[f64],
+    head: Head,
+    both: Both,
+    answer: &Answer,
+) -> Made {
+    let call = ordered(b, u, v, values, b2, u2, v2, values2, head, answer);
+    let report = call.report;
+    let in_order = report.refusal.number == 0;
+    judged(head, both, call.agrees, in_order)
 }
 
 // Reads what the lists are to be afterwards; of a refused call they are to be as they are. Whether
@@ -137,6 +242,32 @@ fn read_after(b2: &mut [f64], u2: &mut [f64], v2: &mut [f64], answer: &Answer) -
     read_list(v2)
 }
 
+// Makes the lists, which are what the accumulating call is to leave, what the ordered one is to leave
+// of b, u and v. Whether it is there.
+fn read_ordered(
+    b: &[f64],
+    u: &[f64],
+    v: &[f64],
+    b2: &mut [f64],
+    u2: &mut [f64],
+    v2: &mut [f64],
+    values2: &mut [f64],
+    answer: &Answer,
+) -> bool
+    requires { ⌜ (length (now b) ≡ length (now b2)) × (length (now u) ≡ length (now u2))
+        × (length (now v) ≡ length (now v2)) ⌝ }
+{
+    let number = number_in(answer);
+    if number == 0 {
+        return read_after(values2, u2, v2, answer);
+    }
+    if number == 12 || number == 13 {
+        return true;
+    }
+    copy_lists(b, u, v, b2, u2, v2);
+    true
+}
+
 // Reads what the lists are; whether it is there.
 fn read_before(b: &mut [f64], u: &mut [f64], v: &mut [f64], head: Head) -> bool {
     if !read_list(b) {
@@ -145,53 +276,51 @@ fn read_before(b: &mut [f64], u: &mut [f64], v: &mut [f64], head: Head) -> bool 
     begin(u, v, head)
 }
 
-// The run whose answer stands next: b, u and v hold the lists, b2, u2 and v2 copies of them.
-fn answered(
+// The run of which all but the ordered call is known: that call's answer stands next.
+fn ordered_next(
     b: &mut [f64],
     u: &mut [f64],
     v: &mut [f64],
+    values: &mut [f64],
     b2: &mut [f64],
     u2: &mut [f64],
     v2: &mut [f64],
+    values2: &mut [f64],
     head: Head,
-) -> Seen {
-    let mut answer = [0; 56];
-    if !read_answer(&mut answer) {
-        return Seen::Malformed(head.differ > 0);
-    }
-    if !read_after(b2, u2, v2, &answer) {
-        return Seen::Malformed(head.differ > 0);
-    }
-    Seen::Run(calls(b, u, v, b2, u2, v2, head, &answer))
-}
-
-// The run of this head, in lists that are as long as it says.
-fn run_in(
-    b: &mut [f64],
-    u: &mut [f64],
-    v: &mut [f64],
-    b2: &mut [f64],
-    u2: &mut [f64],
-    v2: &mut [f64],
-    head: Head,
+    both: Both,
 ) -> Seen
     requires { ⌜ (length (now b) ≡ length (now b2)) × (length (now u) ≡ length (now u2))
         × (length (now v) ≡ length (now v2)) ⌝ }
 {
-    if !read_before(b, u, v, head) {
+    let mut answer = [0; 56];
+    if !read_answer(&mut answer) {
         return Seen::Malformed(head.differ > 0);
     }
-    copy(b, b2);
-    copy(u, u2);
-    copy(v, v2);
-    answered(b, u, v, b2, u2, v2, head)
+    if !read_ordered(b, u, v, b2, u2, v2, values2, &answer) {
+        return Seen::Malformed(head.differ > 0);
+    }
+    Seen::Run(put_in_order(b, u, v, values, b2, u2, v2, values2, head, both, &answer))
 }
 
-// The run of this head.
-fn run_of(head: Head) -> Seen {
-    let n = head.matrix;
-    let nu = head.u;
-    let nv = head.v;
+// The run whose first answer this is: b, u and v hold the lists, b2, u2 and v2 what they are to be.
+fn replayed(
+    b: &mut [f64],
+    u: &mut [f64],
+    v: &mut [f64],
+    values: &mut [f64],
+    b2: &mut [f64],
+    u2: &mut [f64],
+    v2: &mut [f64],
+    values2: &mut [f64],
+    head: Head,
+    answer: &Answer,
+) -> Seen
+    requires { ⌜ (length (now b) ≡ length (now b2)) × (length (now u) ≡ length (now u2))
+        × (length (now v) ≡ length (now v2)) ⌝ }
+{
+    let n = b.len();
+    let nu = u.len();
+    let nv = v.len();
     if n > 2401 {
         return Seen::Malformed(head.differ > 0);
     }
@@ -201,19 +330,110 @@ fn run_of(head: Head) -> Seen {
     if nv > 2401 {
         return Seen::Malformed(head.differ > 0);
     }
+    let mut c = blank();
+    let mut cu = blank();
+    let mut cv = blank();
+    let both = calls(
+        b,
+        u,
+        v,
+        &mut c[..n],
+        &mut cu[..nu],
+        &mut cv[..nv],
+        b2,
+        u2,
+        v2,
+        head,
+        answer,
+    );
+    if head.kept < 2 {
+        return Seen::Run(judged(head, both, true, false));
+    }
+    ordered_next(b, u, v, values, b2, u2, v2, values2, head, both)
+}
+
+// The run whose answer stands next: b, u and v hold the lists, b2, u2 and v2 copies of them.
+fn answered(
+    b: &mut [f64],
+    u: &mut [f64],
+    v: &mut [f64],
+    values: &mut [f64],
+    b2: &mut [f64],
+    u2: &mut [f64],
+    v2: &mut [f64],
+    values2: &mut [f64],
+    head: Head,
+) -> Seen
+    requires { ⌜ (length (now b) ≡ length (now b2)) × (length (now u) ≡ length (now u2))
+        × (length (now v) ≡ length (now v2)) ⌝ }
+{
+    let mut answer = [0; 56];
+    if !read_answer(&mut answer) {
+        return Seen::Malformed(head.differ > 0);
+    }
+    if !read_after(b2, u2, v2, &answer) {
+        return Seen::Malformed(head.differ > 0);
+    }
+    replayed(b, u, v, values, b2, u2, v2, values2, head, &answer)
+}
+
+// The run of this head, in lists that are as long as it says.
+fn run_in(
+    b: &mut [f64],
+    u: &mut [f64],
+    v: &mut [f64],
+    values: &mut [f64],
+    b2: &mut [f64],
+    u2: &mut [f64],
+    v2: &mut [f64],
+    values2: &mut [f64],
+    head: Head,
+) -> Seen
+    requires { ⌜ (length (now b) ≡ length (now b2)) × (length (now u) ≡ length (now u2))
+        × (length (now v) ≡ length (now v2)) ⌝ }
+{
+    if !read_before(b, u, v, head) {
+        return Seen::Malformed(head.differ > 0);
+    }
+    copy_lists(b, u, v, b2, u2, v2);
+    answered(b, u, v, values, b2, u2, v2, values2, head)
+}
+
+// The run of this head.
+fn run_of(head: Head) -> Seen {
+    let n = head.matrix;
+    let nu = head.u;
+    let nv = head.v;
+    let nw = head.values;
+    if n > 2401 {
+        return Seen::Malformed(head.differ > 0);
+    }
+    if nu > 2401 {
+        return Seen::Malformed(head.differ > 0);
+    }
+    if nv > 2401 {
+        return Seen::Malformed(head.differ > 0);
+    }
+    if nw > 2401 {
+        return Seen::Malformed(head.differ > 0);
+    }
     let mut b = blank();
     let mut u = blank();
     let mut v = blank();
+    let mut values = blank();
     let mut b2 = blank();
     let mut u2 = blank();
     let mut v2 = blank();
+    let mut values2 = blank();
     run_in(
         &mut b[..n],
         &mut u[..nu],
         &mut v[..nv],
+        &mut values[..nw],
         &mut b2[..n],
         &mut u2[..nu],
         &mut v2[..nv],
+        &mut values2[..nw],
         head,
     )
 }

@@ -1,13 +1,17 @@
 // How a run is stored. Words of 8 bytes, the lowest byte first; a double is the word of its bits:
 //   rows, columns, limit, credit, tolerance, absolute, floor,
-//   kept: 0 for the plain call, 1 for the accumulating one,
+//   kept: 0 for the plain call, 1 for the accumulating one beside it, 2 for the ordered one as well,
 //   start: 0 where U and V start as the identity, or there are none; 1 where they are stored,
-//   how long matrix, U and V are, each at most 49 x 49; with kept 0, U and V have length 0;
-//   differ: how many of the run's calls have to differ from what follows; 0, or 1 or 2 where the run
+//   how long matrix, U, V and the list of values are, each at most 49 x 49; with kept 0, U and V have
+//     length 0, and with kept 0 or 1 the list of values has;
+//   differ: how many of the run's calls have to differ from what follows; 0, or 1 to 3 where the run
 //     is wrong on purpose;
-//   the matrix, and with start 1, U and V;
+//   the matrix, and with start 1, U and V; the list of values is not stored;
 //   the answer: the report's words, in the order of `words_of`;
-//   with number 0 the matrix, U and V afterwards; else they are as they were.
+//   with number 0 the matrix, U and V afterwards; else they are as they were;
+//   with kept 2 the ordered call's answer likewise;
+//   with number 0 the list of values, U and V after it, where the matrix is the accumulating call's;
+//   with 12 or 13 matrix, U and V are the accumulating call's; else they are as they were.
 use crate::bits::decode;
 use crate::bits::word;
 use checks::settings::Settings;
@@ -27,6 +31,7 @@ pub(crate) struct Head {
     pub(crate) matrix: usize,
     pub(crate) u: usize,
     pub(crate) v: usize,
+    pub(crate) values: usize,
     pub(crate) differ: u64,
 }
 
@@ -41,10 +46,10 @@ pub(crate) enum Found {
 }
 
 // Room for the words of a head.
-fn head_room() -> [u8; 104]
-    ensures { λ r. ⌜ 104 ≡ length r ⌝ }
+fn head_room() -> [u8; 112]
+    ensures { λ r. ⌜ 112 ≡ length r ⌝ }
 {
-    [0; 104]
+    [0; 112]
 }
 
 // Room for the words of the longest list.
@@ -56,7 +61,7 @@ fn list_room() -> [u8; 19208]
 
 // The settings of a head's words.
 fn settings_of(bytes: &[u8]) -> Settings
-    requires { ⌜ 104 ≤ length (now bytes) ⌝ }
+    requires { ⌜ 112 ≤ length (now bytes) ⌝ }
 {
     Settings {
         limit: word(bytes, 16) as usize,
@@ -69,7 +74,7 @@ fn settings_of(bytes: &[u8]) -> Settings
 
 // The head of its words.
 fn head_of(bytes: &[u8]) -> Head
-    requires { ⌜ 104 ≤ length (now bytes) ⌝ }
+    requires { ⌜ 112 ≤ length (now bytes) ⌝ }
 {
     let settings = settings_of(bytes);
     Head {
@@ -81,7 +86,8 @@ fn head_of(bytes: &[u8]) -> Head
         matrix: word(bytes, 72) as usize,
         u: word(bytes, 80) as usize,
         v: word(bytes, 88) as usize,
-        differ: word(bytes, 96),
+        values: word(bytes, 96) as usize,
+        differ: word(bytes, 104),
     }
 }
 
@@ -117,12 +123,16 @@ pub(crate) fn report_agrees(report: Report, answer: &Answer) -> bool {
     true
 }
 
-// Whether a head is one that is stored: the plain call has no U and V.
+// Whether a head is one that is stored: the plain call has no U and V, and only the ordered one has a
+// list of values.
 fn is_fit(head: Head) -> bool {
     if head.kept == 0 {
-        return head.start == 0 && head.u == 0 && head.v == 0;
+        return head.start == 0 && head.u == 0 && head.v == 0 && head.values == 0;
     }
-    head.kept == 1 && head.start <= 1
+    if head.kept == 1 {
+        return head.start <= 1 && head.values == 0;
+    }
+    head.kept == 2 && head.start <= 1
 }
 
 // Reads the next head.
@@ -132,7 +142,7 @@ pub(crate) fn read_head() -> Found {
     if n == 0 {
         return Found::End;
     }
-    if n < 104 {
+    if n < 112 {
         return Found::Malformed;
     }
     let head = head_of(&bytes);
@@ -174,7 +184,7 @@ fn fill(u: &mut [f64], v: &mut [f64], head: Head) -> bool {
 
 // Makes U and V what they are at the start; whether that can be.
 pub(crate) fn begin(u: &mut [f64], v: &mut [f64], head: Head) -> bool {
-    if head.kept == 1 && head.start == 0 {
+    if head.kept > 0 && head.start == 0 {
         return fill(u, v, head);
     }
     if !read_list(u) {

@@ -13,6 +13,7 @@ pub(crate) struct Totals {
     settled: u64,
     stopped: u64,
     passes: u64,
+    in_order: u64,
 }
 
 // The sum, or the largest number where it would be above that.
@@ -37,6 +38,7 @@ impl Totals {
             settled: 0,
             stopped: 0,
             passes: 0,
+            in_order: 0,
         }
     }
 
@@ -53,7 +55,7 @@ impl Totals {
         if made.wrong {
             totals
         } else {
-            totals.answered(report)
+            totals.answered(report, made.in_order)
         }
     }
 
@@ -72,8 +74,11 @@ impl Totals {
         self
     }
 
-    // The same, of which the library answered this.
-    fn answered(mut self, report: Report) -> Totals {
+    // The same, of which the library answered this, and put its values in order or not.
+    fn answered(mut self, report: Report, in_order: bool) -> Totals {
+        if in_order {
+            self.in_order = plus(self.in_order, 1);
+        }
         self.passes = plus(self.passes, report.tally.passes as u64);
         let word = report.word;
         match word {
@@ -95,8 +100,8 @@ impl Totals {
         self.scored(wrong, false).ended()
     }
 
-    // A line such as "9 runs: 2 refused, 4 settled, 3 stopped, 70 passes, 0 differ; 5 wrong on
-    // purpose, 5 found".
+    // A line such as "9 runs: 2 refused, 4 settled, 3 stopped, 70 passes, 3 in order, 0 differ; 5
+    // wrong on purpose, 5 found".
     pub(crate) fn print(self) {
         let score = self.score;
         print(score.right, b" runs: ");
@@ -104,6 +109,7 @@ impl Totals {
         print(self.settled, b" settled, ");
         print(self.stopped, b" stopped, ");
         print(self.passes, b" passes, ");
+        print(self.in_order, b" in order, ");
         print(score.differ, b" differ; ");
         print(score.wrong, b" wrong on purpose, ");
         print(score.found, b" found\n");

@@ -5,7 +5,7 @@
 
 use beside::Report;
 use beside::kinds::{Sizes, TABLES, drawn};
-use runs::{Seen, check, shrunk};
+use runs::{MEETINGS, Seen, check, shrunk};
 use std::process::ExitCode;
 use std::sync::Mutex;
 use std::sync::atomic::{AtomicBool, AtomicU64, Ordering::Relaxed};
@@ -30,6 +30,8 @@ struct Counts {
     passes: u64,
     drops: u64,
     most: u64,
+    ordered: u64,
+    meetings: [u64; MEETINGS.len()],
 }
 
 impl Counts {
@@ -48,6 +50,8 @@ impl Counts {
             passes: 0,
             drops: 0,
             most: 0,
+            ordered: 0,
+            meetings: [0; MEETINGS.len()],
         }
     }
 
@@ -76,6 +80,12 @@ impl Counts {
         self.passes += passes;
         self.drops += drops;
         self.most = self.most.max(passes);
+        if let Some(order) = &seen.order {
+            self.ordered += 1;
+            for (many, (_, met)) in self.meetings.iter_mut().zip(MEETINGS) {
+                *many += u64::from(met(order));
+            }
+        }
     }
 
     fn join(&mut self, other: &Counts) {
@@ -85,6 +95,7 @@ impl Counts {
         add(&mut self.numbers, &other.numbers);
         add(&mut self.words, &other.words);
         add(&mut self.shapes, &other.shapes);
+        add(&mut self.meetings, &other.meetings);
         for (to, from) in self.tables.iter_mut().zip(&other.tables) {
             add(to, from);
         }
@@ -95,6 +106,7 @@ impl Counts {
         self.passes += other.passes;
         self.drops += other.drops;
         self.most = self.most.max(other.most);
+        self.ordered += other.ordered;
     }
 
     fn print(&self) {
@@ -125,6 +137,17 @@ impl Counts {
         let shapes = self.shapes.iter().filter(|&&runs| runs > 0).count();
         let least = self.shapes.iter().min().unwrap_or(&0);
         println!("shapes accepted {shapes} of 2304, each at least {least} times");
+        println!("ordered calls {}", self.ordered);
+        for (many, (name, _)) in self.meetings.iter().zip(MEETINGS) {
+            println!(
+                "  {name}: {}",
+                if *many == 0 {
+                    "never".into()
+                } else {
+                    many.to_string()
+                }
+            );
+        }
         println!(
             "{:28}{:>10}{:>10}{:>10}{:>16}",
             "table", "settled", "stopped", "refused", "NaN or infinity"
