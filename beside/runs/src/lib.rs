@@ -6,8 +6,6 @@ use beside::order::{diagonal, places};
 use beside::run::{Call, Reply, Run, alike, untouched, unwritten};
 use merotunki::raw;
 
-mod ordered;
-
 /// What the library replies.
 pub fn library(run: &Run, call: Call) -> Reply {
     let s = &run.settings;
@@ -31,7 +29,7 @@ pub fn library(run: &Run, call: Call) -> Reply {
         Call::Accumulating => raw::full_svd(&mut matrix, (&mut u, &mut v), rows, cols, choice),
         Call::Ordered => {
             let factors = (&mut u[..], &mut v[..]);
-            ordered::ordered_svd(&mut matrix, factors, &mut values, rows, cols, choice)
+            raw::ordered_svd(&mut matrix, factors, &mut values, rows, cols, choice)
         }
     };
     Reply {

@@ -42,8 +42,6 @@ unsafe extern "C" {
     fn bare_full_svd(a: *mut Answer, b: *mut f64, n: usize, u: *mut f64, nu: usize, v: *mut f64, nv: usize, r: usize, c: usize, l: usize, k: usize, t: f64, z: f64, f: f64) -> *mut Answer;
     fn counted_svd(a: *mut Answer, b: *mut f64, n: usize, r: usize, c: usize, l: usize, k: usize, t: f64, z: f64, f: f64) -> *mut Answer;
     static counted_roots: u64;
-    // Until the crate in bindings/rust has it.
-    fn merotunki_ordered_svd(a: *mut Answer, b: *mut f64, n: usize, u: *mut f64, nu: usize, v: *mut f64, nv: usize, d: *mut f64, nd: usize, r: usize, c: usize, l: usize, k: usize, t: f64, z: f64, f: f64) -> *mut Answer;
 }
 
 /// A table of ordinary readings, always the same one of its number.
@@ -172,28 +170,23 @@ fn library(full: bool, plain: Plain, accumulating: Full) -> impl FnMut(&mut Lent
 /// The library's ordered call.
 fn in_order(lent: &mut Lent) {
     let s = Settings::DEFAULT;
-    let mut answer = Answer::default();
-    // SAFETY: each pointer goes with the length of its own list.
-    unsafe {
-        merotunki_ordered_svd(
-            &mut answer,
-            lent.matrix.as_mut_ptr(),
-            lent.matrix.len(),
-            lent.u.as_mut_ptr(),
-            lent.u.len(),
-            lent.v.as_mut_ptr(),
-            lent.v.len(),
-            lent.values.as_mut_ptr(),
-            lent.values.len(),
-            lent.rows,
-            lent.cols,
-            s.limit,
-            s.credit,
-            s.tolerance,
-            s.absolute,
-            s.floor,
-        );
-    }
+    let choice = raw::Choice {
+        limit: s.limit as u64,
+        credit: s.credit as u64,
+        tolerance: s.tolerance,
+        absolute: s.absolute,
+        floor: s.floor,
+    };
+    let factors = (&mut lent.u[..], &mut lent.v[..]);
+    let (rows, cols) = (lent.rows, lent.cols);
+    let answer = raw::ordered_svd(
+        &mut lent.matrix,
+        factors,
+        &mut lent.values,
+        rows,
+        cols,
+        choice,
+    );
     assert_eq!(answer.number, 0, "a table that is not put in order");
     black_box(answer);
 }
