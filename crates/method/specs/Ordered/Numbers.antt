@@ -12,7 +12,7 @@ use lib.Dec.{eqb, leb}
 use lib.ListN.{length}
 use lib.Ieee.{Float, Format}
 use lib.Ieee.Scale.{finite}
-use borrow.Author.Tests.{eqb-true, eqb-false, leb-true, leb-false}
+use borrow.Author.Tests.{eqb-true, eqb-false, leb-true, leb-false, le-leb, lt-leb}
 use Rattle.method.specs.Floats.{pick}
 use Rattle.method.specs.Repeated.{repeated-none, repeated-next, repeated-suc}
 use Rattle.method.specs.Work.{Work}
@@ -74,7 +74,14 @@ settled-says none = (λ e. absurd (false≢true e), λ e. absurd (let z : 0 ≡ 
 settled-says settled = (λ e. refl, λ e. refl)
 settled-says stopped = (λ e. absurd (false≢true e), λ e. absurd (let z : 2 ≡ 1 = ap wordNumber e in omega (arith, z)))
 
--- the smaller of rows and columns is at most each
+-- the smaller of rows and columns is the columns where they are at most the rows, else the rows,
+pub card-cols : (rows cols : ℕ) → cols ≤ rows → cols ≡ card rows cols
+card-cols rows cols h = rw (le-leb cols rows h) refl
+
+pub card-rows : (rows cols : ℕ) → rows < cols → rows ≡ card rows cols
+card-rows rows cols h = rw (lt-leb cols rows h) refl
+
+-- so it is at most each
 pub card-le : (rows cols : ℕ) → (card rows cols ≤ rows) × (card rows cols ≤ cols)
 card-le rows cols = go (leb cols rows) refl
   where
