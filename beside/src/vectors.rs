@@ -130,8 +130,9 @@ pub fn told(run: &Run) -> Told {
     Told { first, ordered }
 }
 
-/// A run with what is told of it, as words. `differ` is how many of the run's calls have to differ from that: 0, or more
-/// where it is wrong on purpose. What the list of values holds at first is not stored: the program fills it by itself.
+/// A run with what is told of it, as words. `differ` is how many of the run's calls have to differ
+/// from that: 0, or more where it is wrong on purpose. What the list of values holds at first is not
+/// stored: the program fills it by itself.
 pub fn words(run: &Run, told: &Told, differ: u64) -> Vec<u64> {
     let s = &run.settings;
     let given = run.call.keeps() && matches!(run.start, Start::Given(..));
@@ -231,9 +232,10 @@ pub fn entry(told: &mut Told, mut at: usize) -> Option<&mut f64> {
     None
 }
 
-/// Runs with answers that are wrong on purpose in one place: each word of the report, its lowest and its highest bit; each
-/// entry of each list, likewise; every bit of one entry of each list; a NaN for a number and a number for a NaN. First of
-/// the plain and the accumulating call, then of the ordered one.
+/// Runs with answers that are wrong on purpose in one place: each word of the report, its lowest and
+/// its highest bit; each entry of each list, likewise; every bit of one entry of each list; a NaN for
+/// a number and a number for a NaN. First of the plain and the accumulating call, then of the ordered
+/// one, which has not every bit.
 fn replies_wrong(wrong: &mut Vec<(Run, Told)>) {
     let accepted = |call: Call, start: &Start| Run {
         rows: 2,

@@ -87,21 +87,27 @@ impl Lent {
         }
     }
 
+    /// Seconds that one call takes on the table of this number.
+    fn once(&mut self, number: usize, full: bool, call: &mut dyn FnMut(&mut Lent)) -> f64 {
+        self.matrix.copy_from_slice(&self.tables[number]);
+        if full {
+            self.u.copy_from_slice(&self.identities.0);
+            self.v.copy_from_slice(&self.identities.1);
+        }
+        let start = Instant::now();
+        call(self);
+        let spent = start.elapsed().as_secs_f64();
+        black_box(&self.matrix);
+        spent
+    }
+
     /// Seconds that one call takes, on the mean over the tables.
     fn timed(&mut self, full: bool, call: &mut dyn FnMut(&mut Lent)) -> f64 {
         let many = (40_000 / (self.rows * self.cols)).max(2);
         let mut spent = 0.0;
         for _ in 0..many {
             for number in 0..self.tables.len() {
-                self.matrix.copy_from_slice(&self.tables[number]);
-                if full {
-                    self.u.copy_from_slice(&self.identities.0);
-                    self.v.copy_from_slice(&self.identities.1);
-                }
-                let start = Instant::now();
-                call(self);
-                spent += start.elapsed().as_secs_f64();
-                black_box(&self.matrix);
+                spent += self.once(number, full, call);
             }
         }
         spent / (many * self.tables.len()) as f64
@@ -191,29 +197,23 @@ fn in_order(lent: &mut Lent) {
     black_box(answer);
 }
 
-/// Prints what the ordering costs of an accumulating run: both calls by turns on the same tables.
+/// Prints what the ordering costs of an accumulating run. It is little: so the two calls are timed in
+/// turn on each table, and of each table the medians count.
 fn ordering(rows: usize, cols: usize, repeats: usize) {
     let lent = &mut Lent::new(rows, cols);
     let mut accumulating = library(true, raw::merotunki_svd, raw::merotunki_full_svd);
-    let both: Vec<(f64, f64)> = (0..repeats)
-        .map(|_| {
-            let kept = lent.timed(true, &mut accumulating);
-            (kept, lent.timed(true, &mut in_order))
-        })
-        .collect();
-    let kept = 1e6 * median(both.iter().map(|times| times.0).collect());
-    let ordered = 1e6 * median(both.iter().map(|times| times.1).collect());
-    let share = median(
-        both.iter()
-            .map(|(kept, ordered)| (ordered - kept) / kept)
-            .collect(),
-    );
+    let many = lent.tables.len();
+    let (mut kept, mut ordered) = (vec![Vec::new(); many], vec![Vec::new(); many]);
+    for number in (0..many).cycle().take(20 * repeats * many) {
+        kept[number].push(lent.once(number, true, &mut accumulating));
+        ordered[number].push(lent.once(number, true, &mut in_order));
+    }
+    let mean = |times: Vec<Vec<f64>>| times.into_iter().map(median).sum::<f64>() / many as f64;
+    let (kept, ordered) = (1e6 * mean(kept), 1e6 * mean(ordered));
+    let share = 100.0 * (ordered - kept) / kept;
     println!("\n| table | accumulating, us | ordered, us | the ordering, of the accumulating |");
     println!("|---|---|---|---|");
-    println!(
-        "| {rows} x {cols} | {kept:.2} | {ordered:.2} | {:.1} % |",
-        100.0 * share
-    );
+    println!("| {rows} x {cols} | {kept:.2} | {ordered:.2} | {share:.1} % |");
 }
 
 /// The roots of one call, on the mean over the tables.
