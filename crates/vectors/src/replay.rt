@@ -155,27 +155,6 @@ fn ordered(
     Call { agrees, report }
 }
 
-// The accumulating call on copies of b, u and v, in c, cu and cv.
-fn full_of(
-    b: &[f64],
-    u: &[f64],
-    v: &[f64],
-    c: &mut [f64],
-    cu: &mut [f64],
-    cv: &mut [f64],
-    b2: &[f64],
-    u2: &[f64],
-    v2: &[f64],
-    head: Head,
-    answer: &Answer,
-) -> Call
-    requires { ⌜ (length (now b) ≡ length (now c)) × (length (now u) ≡ length (now cu))
-        × (length (now v) ≡ length (now cv)) ⌝ }
-{
-    copy_lists(b, u, v, c, cu, cv);
-    full(c, cu, cv, b2, u2, v2, head, answer)
-}
-
 // The calls of a run but the ordered one, on copies of b, u and v: the plain one alone, or beside it
 // the accumulating one, which is to leave what b2, u2 and v2 hold.
 fn calls(
@@ -203,7 +182,8 @@ fn calls(
         };
     }
     let beside = plain_agrees(b, c, b2, head, answer);
-    let first = full_of(b, u, v, c, cu, cv, b2, u2, v2, head, answer);
+    copy_lists(b, u, v, c, cu, cv);
+    let first = full(c, cu, cv, b2, u2, v2, head, answer);
     Both { first, beside }
 }
 
