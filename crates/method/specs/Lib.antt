@@ -27,3 +27,4 @@ pub mod Cases
 pub mod Lengths
 pub mod Relation
 pub mod Same
+pub mod Rows

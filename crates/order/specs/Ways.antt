@@ -16,12 +16,13 @@ use Rattle.method.specs.Checks.Tests.{few, equal}
 use Rattle.method.specs.Report.{Report, refused}
 use Rattle.method.specs.Outcome.{Outcome, outcomeOf, card, fullOutcome}
 use Rattle.method.specs.Outcome.Refused.{refused-outcome, accepted-outcome, outcome-number}
+use Rattle.method.specs.Outcome.Reports.{card-le}
 use Rattle.method.specs.Order.{diagonal, oldPositions, valuesBy, columnsMoved}
 use Rattle.method.specs.Order.Sizes.{Finite, positions-first}
 use Rattle.method.specs.Ordered.{Ordered, orderedOf, lentChecks, orderedRefusal, runChecks, refusedAfter, putInOrder}
 use Rattle.method.specs.Ordered.{orderedOutcome}
 use Rattle.method.specs.Ordered.Ways.{lent-refused, lent-passed, refused-before, ran-on, refused-after, put-in-order}
-use Rattle.method.specs.Ordered.Numbers.{card-le, lent-fit, run-fine}
+use Rattle.method.specs.Ordered.Numbers.{lent-fit, run-fine}
 use Rattle.order.specs.Room.{Room, Within, Fits, listed, signsBy, Moved, inOrder, inOrderBy}
 
 -- ---- sizes and room

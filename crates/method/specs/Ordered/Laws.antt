@@ -19,7 +19,7 @@ use Rattle.method.specs.Checks.{Refusal}
 use Rattle.method.specs.Report.{none, settled, wordNumber}
 use Rattle.method.specs.Lengths.{SameLengths, walkedFrom-lengths}
 use Rattle.method.specs.Outcome.{Outcome, outcomeOf, card, accepted}
-use Rattle.method.specs.Outcome.Reports.{accepted-settled, atLimit}
+use Rattle.method.specs.Outcome.Reports.{card-le, accepted-settled, atLimit}
 use Rattle.method.specs.Outcome.Calls.{limit-accepts}
 use Rattle.method.specs.Order.{diagonal, ahead, newPlace, oldPositions, oldPosition, valuesBy, columnsMoved, uBy}
 use Rattle.method.specs.Order.{vBy}
@@ -28,7 +28,7 @@ use Rattle.method.specs.Order.Sizes.{LargestFirst, ahead-orders, positio
 use Rattle.method.specs.Order.Columns.{length-rowsMoved, moved, stays, moved-back}
 use Rattle.method.specs.Ordered.{Ordered, orderedOf, orderedRefusal, putInOrder, orderedOutcome}
 use Rattle.method.specs.Ordered.Ways.{lent-passed, refused-before, ran-on, foundAfter, refused-after, put-in-order}
-use Rattle.method.specs.Ordered.Numbers.{card-le, lent-none, Sorts}
+use Rattle.method.specs.Ordered.Numbers.{lent-none, Sorts}
 
 accepted-lengths :
     (f : Format) (rows cols : ℕ) (s : Settings) (w : Work) → SameLengths w (accepted f true rows cols s w .held)

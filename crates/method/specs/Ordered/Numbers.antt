@@ -74,20 +74,12 @@ settled-says none = (λ e. absurd (false≢true e), λ e. absurd (let z : 0 ≡ 
 settled-says settled = (λ e. refl, λ e. refl)
 settled-says stopped = (λ e. absurd (false≢true e), λ e. absurd (let z : 2 ≡ 1 = ap wordNumber e in omega (arith, z)))
 
--- the smaller of rows and columns is the columns where they are at most the rows, else the rows,
+-- the smaller of rows and columns is the columns where they are at most the rows, else the rows
 pub card-cols : (rows cols : ℕ) → cols ≤ rows → cols ≡ card rows cols
 card-cols rows cols h = rw (le-leb cols rows h) refl
 
 pub card-rows : (rows cols : ℕ) → rows < cols → rows ≡ card rows cols
 card-rows rows cols h = rw (lt-leb cols rows h) refl
-
--- so it is at most each
-pub card-le : (rows cols : ℕ) → (card rows cols ≤ rows) × (card rows cols ≤ cols)
-card-le rows cols = go (leb cols rows) refl
-  where
-    go : (b : Bool) → leb cols rows ≡ b → (pick b cols rows ≤ rows) × (pick b cols rows ≤ cols)
-    go true t = (leb-true cols rows t, omega arith)
-    go false t = (omega arith, omega (arith, leb-false cols rows t))
 
 -- ---- the table: each number with its condition, in the order in which they are looked at
 

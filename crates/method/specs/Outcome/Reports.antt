@@ -9,6 +9,8 @@ use native.Mathlib.Nat.{le-of-eq}
 use native.Mathlib.Omega.{arith}
 use lib.Dec.{leb}
 use lib.Ieee.{Format}
+use borrow.Author.Tests.{leb-true, leb-false}
+use Rattle.method.specs.Floats.{pick}
 use Rattle.method.specs.Work.{Work, packed}
 use Rattle.method.specs.Walk.{Walk, State, start, run}
 use Rattle.method.specs.Walk.Counts.{WholeWalk, whole-walk}
@@ -32,12 +34,20 @@ pub record TrueReport (s : Settings) (c : ℕ) (r : Report) : Type 0 where
   pub settled : r .tally .range ≡ 1 → r .word ≡ settled
   pub stopped : 1 < r .tally .range → r .word ≡ stopped
 
-card-some : (rows cols : ℕ) → 1 ≤ rows → 1 ≤ cols → 1 ≤ card rows cols
+-- the smaller of rows and columns: 1 or more where both are, at most each, and at most the most of each
+pub card-some : (rows cols : ℕ) → 1 ≤ rows → 1 ≤ cols → 1 ≤ card rows cols
 card-some rows cols h g = go (leb cols rows) refl
   where
     go : (t : Bool) → leb cols rows ≡ t → 1 ≤ card rows cols
     go true e = rw e g
     go false e = rw e h
+
+pub card-le : (rows cols : ℕ) → (card rows cols ≤ rows) × (card rows cols ≤ cols)
+card-le rows cols = go (leb cols rows) refl
+  where
+    go : (b : Bool) → leb cols rows ≡ b → (pick b cols rows ≤ rows) × (pick b cols rows ≤ cols)
+    go true t = (leb-true cols rows t, omega arith)
+    go false t = (omega arith, omega (arith, leb-false cols rows t))
 
 pub card-most : (rows cols : ℕ) → rows ≤ mostSize → cols ≤ mostSize → card rows cols ≤ mostSize
 card-most rows cols h g = go (leb cols rows) refl

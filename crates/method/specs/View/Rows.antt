@@ -27,7 +27,7 @@ pub record ViewFit (rows cols : ℕ) (u v : List Float) (side k : ℕ) : Type 0 
   pub row-below-size : k < pick (eqb side 0) rows cols
 
 -- a row of a square table has as many entries as the table has rows
-row-length : (n k : ℕ) (a : List Float) → k < n → length a ≡ n * n → length (rowOf n k a) ≡ n
+pub row-length : (n k : ℕ) (a : List Float) → k < n → length a ≡ n * n → length (rowOf n k a) ≡ n
 row-length n k a h e = length-take-le n (drop (k * n) a) (rw length-drop (omega (arith, row-below n h)))
 
 module _ (rows cols : ℕ) (u v : List Float) (side k : ℕ) where
