@@ -5,6 +5,7 @@ pub mod Zeros
 pub mod Runs
 pub mod Moved
 pub mod Calls
+pub mod Ordered
 use mathlib.Core.Path.{_≡_}
 use mathlib.Core.Logic.{_⊎_}
 use mathlib.Core.Bool.{true}

@@ -23,7 +23,7 @@ same-table rows cols left i j w = refl
 same-table rows cols right i j w = refl
 
 -- a call leaves the lengths of the factors
-held-square :
+pub held-square :
     (f : Format) (rows cols : ℕ) (s : Settings) (w : Work) → Square rows cols w →
     Square rows cols (fullOutcome f rows cols s w .held)
 held-square f rows cols s w q left = outcome-lengths f true rows cols s w .u ∙ q left
