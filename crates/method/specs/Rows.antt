@@ -1,5 +1,5 @@
--- Each row of U and of V goes its own way (rule 9.5): what is said of the rows of two calls, and of one row. Definitions
--- only.
+-- Each row of U and of V goes its own way (rule 9.5): what is said of the rows of two calls, and of one row.
+-- Definitions only.
 pub mod Steps
 pub mod Zeros
 pub mod Runs
@@ -43,9 +43,9 @@ rowAt side rows cols i w = rowOf (sizeOf side rows cols) i (factor side w)
 
 -- ---- two calls
 
--- A call that began with the lists w₀ left w, another that began with w₀′ left w′. The matrices are equal; and where row
--- i of the one U began as row j of the other, it ended as that one did, whatever the other rows and V were; the same
--- for V.
+-- A call that began with the lists w₀ left w, another that began with w₀′ left w′. The matrices are equal; and where
+-- row i of the one U began as row j of the other, it ended as that one did, whatever the other rows and V were; the
+-- same for V.
 pub record OwnRows (rows cols : ℕ) (w₀ w₀′ w w′ : Work) : Type 0 where
   pub matrix : w .matrix ≡ w′ .matrix
   pub row :
@@ -66,7 +66,9 @@ oneRow right rows cols = shape rows cols cols 0 1
 
 -- what the run over the table b makes of the row r of one factor, with no other row kept
 unfoldable pub rowAlone : Format → Side → ℕ → ℕ → Settings → List Float → List Float → List Float
-rowAlone f side rows cols s b r = factor side (walkedFrom f (oneRow side rows cols) rows cols s (withRow side b r) .held)
+rowAlone f side rows cols s b r =
+    let e = walkedFrom f (oneRow side rows cols) rows cols s (withRow side b r) in
+    factor side (e .held)
 
 -- ---- rows of zeros
 

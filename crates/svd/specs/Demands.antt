@@ -1,8 +1,9 @@
 -- The three demands, as theorems of the two calls: on every input, of whatever a call's promise allows it to report
 -- and to leave in what it was lent. (That every call ends, without a fault, is what the checker shows of all code.)
--- First the statements, `Demand1` to `Demand3`, then that they hold of every answer, and the two laws of two calls. They
--- lean on the definition: `outcome`, `accepted` (method's Outcome), and the list `meanings` (method's Checks.Table).
--- Assumes nothing.
+-- First the statements, `Demand1` to `Demand3`, then that they hold of every answer, and the laws of two calls; last,
+-- that each row of U and V goes its own way. They lean on the definition: `outcome`, `accepted` (method's Outcome), the
+-- list `meanings` (method's Checks.Table), and on `OwnRows`, `rowAlone`, `ZeroRow`, `exchanged` (method's Rows). Assumes
+-- nothing.
 use mathlib.Core.Path.{_≡_, sym, ap, _∙_}
 use mathlib.Core.Logic.{_↔_}
 use mathlib.Core.Bool.{Bool, true, false}
@@ -15,6 +16,7 @@ use Rattle.method.specs.Work.{Work, work, packed}
 use Rattle.method.specs.Walk.{Rules, State, start, going, run}
 use Rattle.method.specs.Walk.Applied.{applied}
 use Rattle.method.specs.Settings.{mostLimit}
+use Rattle.method.specs.Checks.{refusalOf}
 use Rattle.method.specs.Checks.First.{First}
 use Rattle.method.specs.Checks.Readings.{FirstBadAt}
 use Rattle.method.specs.Checks.Table.{meanings, numbers, place}
@@ -24,6 +26,10 @@ use Rattle.method.specs.Outcome.{Outcome, outcomeOf, card, rulesFor, formOf, ac
 use Rattle.method.specs.Outcome.{plainOutcome, fullOutcome}
 use Rattle.method.specs.Outcome.Reports.{accepted-exposed, atLimit}
 use Rattle.method.specs.Outcome.Calls.{calls-agree, settled-stays}
+use Rattle.method.specs.Fill.{identity}
+use Rattle.method.specs.View.{rowOf}
+use Rattle.method.specs.Rows.{Side, sizeOf, rowAt, OwnRows, rowAlone, ZeroRow, exchanged}
+use Rattle.method.specs.Rows.Calls.{calls-own, calls-alone, calls-zero, calls-exchanged}
 use Rattle.checks.specs.declared.settings.Settings.{Settings}
 use Rattle.checks.specs.Values.{settingsOf, refusalIn}
 use Rattle.svd.specs.declared.report.Report.{Report}
@@ -174,6 +180,12 @@ module _ {kept : Bool} {rows cols : ℕ} {s : Settings} {w₀ : Work} {r : Repor
 pub demand-2-root : (x r : Float) → AnF64 x → r ≡ squareRoot binary64 x → RootIs x r
 demand-2-root = root-is
 
+-- where a call tells number 0, the definition refuses nothing
+told-fine :
+    {kept : Bool} {rows cols : ℕ} {s : Settings} {w₀ : Work} {r : Report} {w : Work} →
+    Allowed kept rows cols s w₀ r w → r .refusal .number ≡ 0 → refusalOf kept rows cols (settingsOf s) w₀ .number ≡ 0
+told-fine {kept} {rows} {cols} {s} {w₀} {r} {w} a e = sym (told-number kept rows cols s w₀ r w (a .promise)) ∙ e
+
 -- with U and V kept or not, an accepted run has the same report and the same matrix
 pub kept-or-not :
     {rows cols : ℕ} {s : Settings} {b₀ u₀ v₀ b u v b′ : List Float} {r r′ : Report} →
@@ -182,8 +194,7 @@ pub kept-or-not :
     r .refusal .number ≡ 0 →
     (r ≡ r′) × (b ≡ b′)
 kept-or-not {rows} {cols} {s} {b₀} {u₀} {v₀} {r = r} {r′ = r′} a a′ e =
-    let fine = sym (told-number true rows cols s (work b₀ u₀ v₀) r _ (a .promise)) ∙ e in
-    let q = calls-agree binary64 rows cols (settingsOf s) (work b₀ u₀ v₀) fine in
+    let q = calls-agree binary64 rows cols (settingsOf s) (work b₀ u₀ v₀) (told-fine a e) in
     let matrix : Work → List Float = λ w. w .matrix in (
       report-one r r′ (reportsOf (a .promise) ∙ q .0 ∙ sym (reportsOf (a′ .promise))),
       ap matrix (listsOf (a .promise)) ∙ q .1 ∙ sym (ap matrix (listsOf (a′ .promise))),
@@ -201,9 +212,64 @@ pub settled-stands :
     (r′ ≡ r) × (w′ ≡ w)
 settled-stands {kept} {rows} {cols} {n} {s} {s′} {w₀} {w} {w′} {r} {r′} a a′ g more most e =
     let p = a .promise in
-    let z = settled-fine kept rows cols s w₀ r w p e in
-    let fine = sym (told-number kept rows cols s w₀ r w p) ∙ z in
+    let fine = told-fine a (settled-fine kept rows cols s w₀ r w p e) in
     let word = ap (λ (x : Report.Report). x .word) (sym (reportsOf p)) ∙ ap wordIn e in
     let same = settled-stays binary64 kept rows cols (settingsOf s) w₀ n more most fine word in
     let q = rw g at (a′ .promise) ∙ same ∙ sym p in
     (report-one r′ r (reportsOf q), listsOf q)
+
+-- ---- each station keeps its own row, and each pass (method's Rows)
+
+-- Two accumulating calls, neither of them refused, with equal sizes, readings and settings: report and matrix are equal;
+-- and where row i of the one U began as row j of the other, it ended as that one did, however the other rows and V
+-- began. The same for V.
+pub own-rows :
+    {rows cols : ℕ} {s : Settings} {w₀ w₀′ w w′ : Work} {r r′ : Report} →
+    Allowed true rows cols s w₀ r w →
+    Allowed true rows cols s w₀′ r′ w′ →
+    w₀ .matrix ≡ w₀′ .matrix →
+    r .refusal .number ≡ 0 →
+    r′ .refusal .number ≡ 0 →
+    (r ≡ r′) × OwnRows rows cols w₀ w₀′ w w′
+own-rows {rows} {cols} {s} {w₀} {w₀′} {w} {w′} {r} {r′} a a′ m e e′ =
+    let k = calls-own rows cols (settingsOf s) w₀ (told-fine a e) binary64 w₀′ (told-fine a′ e′) m in (
+      report-one r r′ (reportsOf (a .promise) ∙ k .0 ∙ sym (reportsOf (a′ .promise))),
+      rw (listsOf (a .promise), listsOf (a′ .promise)) (k .1),
+    )
+
+module _ {rows cols : ℕ} {s : Settings} {w₀ : Work} {r : Report} {w : Work} (a : Allowed true rows cols s w₀ r w)
+    (e : r .refusal .number ≡ 0) (side : Side) (i : ℕ) (h : i < sizeOf side rows cols) where
+  -- A row turns on the readings, the settings and where it began, and on nothing else: it is what a run that keeps this
+  -- row alone makes of it.
+  pub own-row :
+      rowAt side rows cols i w
+      ≡ rowAlone binary64 side rows cols (settingsOf s) (w₀ .matrix) (rowAt side rows cols i w₀)
+  own-row = rw (listsOf (a .promise)) (calls-alone rows cols (settingsOf s) w₀ (told-fine a e) binary64 side i h)
+
+  -- so from the identity it turns on the readings, the settings and i
+  pub from-identity :
+      rowAt side rows cols i w₀ ≡ rowOf (sizeOf side rows cols) i (identity (sizeOf side rows cols)) →
+      rowAt side rows cols i w
+      ≡ rowAlone binary64 side rows cols (settingsOf s) (w₀ .matrix)
+      (rowOf (sizeOf side rows cols) i (identity (sizeOf side rows cols)))
+  from-identity q = own-row ∙ ap (rowAlone binary64 side rows cols (settingsOf s) (w₀ .matrix)) q
+
+  -- a row of zeros, of either sign, and NaNs stays one
+  pub zero-row : ZeroRow (rowAt side rows cols i w₀) → ZeroRow (rowAt side rows cols i w)
+  zero-row z = rw (listsOf (a .promise)) (calls-zero rows cols (settingsOf s) w₀ (told-fine a e) binary64 side i h z)
+
+-- Two stations' starting rows exchanged: the second call is not refused either, their final rows are exchanged, and
+-- nothing else changes. The same for two passes.
+pub rows-exchanged :
+    {rows cols : ℕ} {s : Settings} {w₀ w w′ : Work} {r r′ : Report} (side : Side) (i j : ℕ) →
+    Allowed true rows cols s w₀ r w →
+    Allowed true rows cols s (exchanged side rows cols i j w₀) r′ w′ →
+    r .refusal .number ≡ 0 →
+    i < sizeOf side rows cols →
+    j < sizeOf side rows cols →
+    (r′ ≡ r) × (w′ ≡ exchanged side rows cols i j w)
+rows-exchanged {rows} {cols} {s} {w₀} {w} {w′} {r} {r′} side i j a a′ e h g =
+    let q = a′ .promise ∙ calls-exchanged rows cols (settingsOf s) w₀ (told-fine a e) binary64 side i j h g in (
+      report-one r′ r (reportsOf q ∙ sym (reportsOf (a .promise))),
+      listsOf q ∙ ap (exchanged side rows cols i j) (sym (listsOf (a .promise))),
+    )

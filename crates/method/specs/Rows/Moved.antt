@@ -3,14 +3,14 @@
 use mathlib.Core.Path.{_≡_, refl, sym, ap, _∙_}
 use mathlib.Core.Bool.{Bool, true, false}
 use mathlib.Core.List.{List, [], _++_}
-use Prim.Native.Nat.{ℕ, zero, suc, _+_, _-_, _*_, _<_, _≤_}
+use Prim.Native.Nat.{ℕ, zero, suc, _*_, _<_, _≤_}
 use native.Mathlib.Nat.{zero-mul, not-suc-le-zero, le-of-eq}
 use native.Mathlib.Numerals.{add-one}
 use native.Mathlib.Omega.{arith}
 use lib.Dec.{eqb}
 use borrow.Author.Tests.{eqb-true, eqb-false}
 use lib.ListN.{length, take, drop, length-append, length-drop}
-use lib.Seq.{take-all, take-add, take-at, drop-at, take-append-le, drop-append-le, take-take}
+use lib.Seq.{take-all, take-add, drop-at, take-append-le, drop-append-le}
 use lib.Ieee.{Float}
 use Rattle.method.specs.Floats.{pick}
 use Rattle.method.specs.Repeated.{repeated, repeated-none, repeated-suc, repeated-same}
@@ -18,7 +18,7 @@ use Rattle.method.specs.Index.{row-in, row-next}
 use Rattle.method.specs.Work.{Work, work}
 use Rattle.method.specs.View.{rowOf}
 use Rattle.method.specs.View.Rows.{row-length}
-use Rattle.method.specs.Rows.{Side, left, right, factor, sizeOf, rowAt, OwnRows, rowsBy, exchange, exchanged}
+use Rattle.method.specs.Rows.{Side, left, right, factor, sizeOf, OwnRows, rowsBy, exchange, exchanged}
 
 -- the first m rows
 abbrev firstRows : ℕ → (ℕ → ℕ) → List Float → ℕ → List Float

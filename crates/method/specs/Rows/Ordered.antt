@@ -25,7 +25,8 @@ use Rattle.method.specs.Outcome.Reports.{card-le}
 use Rattle.method.specs.Order.{diagonal, oldPosition, valuesBy, columnsMoved}
 use Rattle.method.specs.Order.Sizes.{Finite, positions-first}
 use Rattle.method.specs.Order.Columns.{moved, stays, length-rowsMoved}
-use Rattle.method.specs.Ordered.{Ordered, orderedOf, lentChecks, orderedRefusal, movedBy, putInOrder, orderedOutcome}
+use Rattle.method.specs.Ordered.{Ordered, orderedOf, lentChecks, orderedRefusal, movedBy, putInOrder}
+use Rattle.method.specs.Ordered.{orderedOutcome}
 use Rattle.method.specs.Ordered.Ways.{lent-passed, ran-on, foundAfter, refused-after, put-in-order}
 use Rattle.method.specs.Ordered.Numbers.{lent-fit, lent-none, run-fine}
 use Rattle.method.specs.Rows.{Side, left, right, sizeOf, rowAt, OwnRows, ZeroRow, exchanged}

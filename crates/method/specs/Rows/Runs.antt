@@ -2,14 +2,14 @@
 -- of a run and one that keeps a single row, and of a row of zeros. Assumes nothing.
 use mathlib.Core.Path.{_≡_, refl, sym, ap, _∙_}
 use mathlib.Core.Bool.{true}
-use mathlib.Core.List.{List, []}
+use mathlib.Core.List.{List}
 use Prim.Native.Nat.{ℕ, _+_, _-_, _*_, _<_, _≤_}
 use native.Mathlib.Nat.{zero-mul, le-of-eq, le-trans, min-le-left}
 use native.Mathlib.Omega.{arith}
 use lib.ListN.{length, drop, length-take}
 use lib.Seq.{take-all}
 use lib.Ieee.{Float, Format}
-use Rattle.method.specs.Work.{Work, work, packed}
+use Rattle.method.specs.Work.{Work, packed}
 use Rattle.method.specs.View.{rowOf}
 use Rattle.method.specs.Settings.{Settings}
 use Rattle.method.specs.Rotation.{pairTurned}
@@ -21,7 +21,7 @@ use Rattle.method.specs.Lengths.{walkedFrom-lengths}
 use Rattle.method.specs.Relation.{run-kept}
 use Rattle.method.specs.Relation.Parts.{Between, FactorKept, parts-kept, equal-kept, any-kept}
 use Rattle.method.specs.Same.{runs-kept, runs-agree}
-use Rattle.method.specs.Rows.{Side, left, right, factor, sizeOf, rowAt, OwnRows, withRow, oneRow, rowAlone}
+use Rattle.method.specs.Rows.{Side, left, right, sizeOf, rowAt, OwnRows, withRow, oneRow, rowAlone}
 use Rattle.method.specs.Rows.{ZeroRow}
 use Rattle.method.specs.Rows.Steps.{reflectedRight-row, columnsTurned-row}
 use Rattle.method.specs.Rows.Zeros.{Noughts, noughts, noughts-are, rowReflected-noughts, pairTurned-noughts}

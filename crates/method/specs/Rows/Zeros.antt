@@ -4,7 +4,7 @@ use mathlib.Core.Path.{_≡_, refl, sym, ap, subst, _∙_}
 use mathlib.Core.Logic.{inl, inr}
 use mathlib.Core.Bool.{Bool, true, false, _&&_, cond, Bool·beq, false≢true}
 use mathlib.Core.List.{List, [], _∷_}
-use Prim.Native.Nat.{ℕ, zero, suc, _+_, _-_, _*_, _^_, _<_, _≤_}
+use Prim.Native.Nat.{ℕ, zero, suc, _+_, _-_, _*_, _^_, _<_}
 use native.Mathlib.Nat.{zero-mul, mul-zero, mul-pos, zero-lt-suc, lt-irrefl}
 use native.Mathlib.Omega.{arith}
 use lib.Dec.{eqb, ltb}
@@ -15,7 +15,7 @@ use lib.ListN.{length, getD, set, List·getD-eq-default}
 use lib.Ieee.{Float, nan, inf, fin, Format, prec, emax, low, unlike, up, down, round, neg, sum, add, sub, mul, level, eq}
 use lib.Ieee.Exact.{HasValue, round-exact}
 use lib.Ieee.Fits.{up-pos, down-pos}
-use Rattle.method.specs.Floats.{plusZero, pick, negative, signed}
+use Rattle.method.specs.Floats.{pick, negative, signed}
 use Rattle.method.specs.Rotation.{Rotation, pairTurned}
 use Rattle.method.specs.Reflection.{rowTimes, tailLess, rowLess, rowReflected}
 use Rattle.method.specs.Rows.{ZeroOrNan, ZeroRow}
