@@ -1,7 +1,8 @@
 -- What the ordered call owes, as theorems: on every input, of whatever its promise allows it to report and to leave in
 -- what it was lent. It goes with the demands on the two calls beneath (svd's Demands). First the statements, then that
 -- they hold of every answer, and what holds of two calls. They lean on the definition: `orderedOutcome`, `accepted`,
--- and the lists `orderedMeanings` and `runMeanings` (method's Ordered, Outcome, Ordered.Numbers). Assumes nothing.
+-- the lists `orderedMeanings` and `runMeanings` (method's Ordered, Outcome, Ordered.Numbers), and on what is said of
+-- rows (method's Rows). Assumes nothing.
 use mathlib.Core.Path.{_≡_, sym, ap, _∙_}
 use mathlib.Core.Logic.{_↔_, _⊎_}
 use mathlib.Core.Bool.{true, false}
@@ -24,6 +25,8 @@ use Rattle.method.specs.Order.Sizes.{LargestFirst}
 use Rattle.method.specs.Ordered.{orderedOf, refusedAfter, orderedOutcome}
 use Rattle.method.specs.Ordered.Numbers.{orderedMeanings, afterMeanings, ordered-numbers, sorts}
 use Rattle.method.specs.Ordered.Laws as Laws
+use Rattle.method.specs.Rows.{Side, sizeOf, rowAt, OwnRows, ZeroRow, exchanged}
+use Rattle.method.specs.Rows.Ordered.{orders-own, orders-zero, orders-exchanged}
 use Rattle.checks.specs.declared.settings.Settings.{Settings}
 use Rattle.checks.specs.Values.{settingsOf, refusalIn}
 use Rattle.svd.specs.declared.report.Report.{Report}
@@ -32,7 +35,7 @@ use Rattle.svd.specs.Values.{reportOf, wordIn, tallyOf}
 use Rattle.svd.specs.Demands.{Allowed}
 use Rattle.svd.specs.Answers.{report-one}
 use Rattle.order.specs.Told.{reportsOf, listsOf, valuesOf, told-number, told-place, told-before, told-after}
-use Rattle.order.specs.Told.{told-settled}
+use Rattle.order.specs.Told.{told-run, told-settled}
 use Rattle.order.specs.Told as Told
 
 -- On rows, cols, settings s, the lists w₀ and the list of values l₀ the call may report r and leave the lists w and the
@@ -234,3 +237,61 @@ settled-in-order {rows} {cols} {n} {s} {s′} {w₀} {w} {w′} {l₀} {l} {l′
     let same = Laws.ordered-stays binary64 rows cols (settingsOf s) w₀ l₀ n more most word in
     let q = rw g at (a′ .promise) ∙ same ∙ sym p in
     (report-one r′ r (reportsOf q), listsOf q, valuesOf q)
+
+-- ---- each station keeps its own row, and each pass: wherever the run was made (0, 12, 13)
+
+-- Two calls with equal sizes, readings and settings: report and matrix are equal, and so is the list, where it is
+-- written; where row i of the one U began as row j of the other, it ended as that one did, however the other rows and V
+-- began. The same for V.
+pub own-rows-in-order :
+    {rows cols : ℕ} {s : Settings} {w₀ w₀′ w w′ : Work} {l₀ l₀′ l l′ : List Float} {r r′ : Report} →
+    OrderedAllowed rows cols s w₀ l₀ r w l →
+    OrderedAllowed rows cols s w₀′ l₀′ r′ w′ l′ →
+    w₀ .matrix ≡ w₀′ .matrix →
+    (r .refusal .number ≡ 0) ⊎ (12 ≤ r .refusal .number) →
+    (r′ .refusal .number ≡ 0) ⊎ (12 ≤ r′ .refusal .number) →
+    (r ≡ r′) × OwnRows rows cols w₀ w₀′ w w′ × (r .refusal .number ≡ 0 → l ≡ l′)
+own-rows-in-order {rows} {cols} {s} {w₀} {w₀′} {w} {w′} {l₀} {l₀′} {l} {l′} {r} {r′} a a′ m made made′ =
+    let p = a .promise in
+    let p′ = a′ .promise in
+    let e = told-run rows cols s w₀ l₀ r w l p made in
+    let e′ = told-run rows cols s w₀′ l₀′ r′ w′ l′ p′ made′ in
+    let k = orders-own binary64 rows cols (settingsOf s) w₀ w₀′ l₀ l₀′ e e′ m in (
+      report-one r r′ (reportsOf p ∙ k .report ∙ sym (reportsOf p′)),
+      rw (listsOf p, listsOf p′) (k .held),
+      λ z.
+          let none = ap (λ (x : Report.Report). x .refusal .number) (sym (reportsOf p)) ∙ z in
+          valuesOf p ∙ k .values none ∙ sym (valuesOf p′),
+    )
+
+-- a row of zeros, of either sign, and NaNs stays one
+pub zero-row-in-order :
+    {rows cols : ℕ} {s : Settings} {w₀ w : Work} {l₀ l : List Float} {r : Report} →
+    OrderedAllowed rows cols s w₀ l₀ r w l →
+    (r .refusal .number ≡ 0) ⊎ (12 ≤ r .refusal .number) →
+    (side : Side) (i : ℕ) →
+    i < sizeOf side rows cols →
+    ZeroRow (rowAt side rows cols i w₀) →
+    ZeroRow (rowAt side rows cols i w)
+zero-row-in-order {rows} {cols} {s} {w₀} {w} {l₀} {l} {r} a made side i h z =
+    rw (listsOf (a .promise))
+    (orders-zero binary64 rows cols (settingsOf s) w₀ l₀ (told-run rows cols s w₀ l₀ r w l (a .promise) made) side i h z)
+
+-- Two stations' starting rows exchanged: the second call has the same report and list, their final rows are exchanged,
+-- and nothing else changes. The same for two passes.
+pub rows-exchanged-in-order :
+    {rows cols : ℕ} {s : Settings} {w₀ w w′ : Work} {l₀ l l′ : List Float} {r r′ : Report} (side : Side) (i j : ℕ) →
+    OrderedAllowed rows cols s w₀ l₀ r w l →
+    OrderedAllowed rows cols s (exchanged side rows cols i j w₀) l₀ r′ w′ l′ →
+    (r .refusal .number ≡ 0) ⊎ (12 ≤ r .refusal .number) →
+    i < sizeOf side rows cols →
+    j < sizeOf side rows cols →
+    (r′ ≡ r) × (w′ ≡ exchanged side rows cols i j w) × (l′ ≡ l)
+rows-exchanged-in-order {rows} {cols} {s} {w₀} {w} {w′} {l₀} {l} {l′} {r} {r′} side i j a a′ made h g =
+    let p = a .promise in
+    let e = told-run rows cols s w₀ l₀ r w l p made in
+    let q = a′ .promise ∙ orders-exchanged binary64 rows cols (settingsOf s) w₀ l₀ e side i j h g in (
+      report-one r′ r (reportsOf q ∙ sym (reportsOf p)),
+      listsOf q ∙ ap (exchanged side rows cols i j) (sym (listsOf p)),
+      valuesOf q ∙ sym (valuesOf p),
+    )

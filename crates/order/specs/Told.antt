@@ -77,6 +77,13 @@ module _ (rows cols : ℕ) (s : Settings) (w₀ : Work) (l₀ : List Float) (r :
   pub told-settled : Report.settled ≡ reportOf r .word → r .word ≡ Settled
   told-settled e = word-one (r .word) Settled (sym e)
 
+  -- where the run was made, nothing was refused before it
+  pub told-run :
+      (r .refusal .number ≡ 0) ⊎ (12 ≤ r .refusal .number) →
+      orderedRefusal rows cols (settingsOf s) w₀ l₀ .number ≡ 0
+  told-run (inl z) = sorts rows cols (settingsOf s) w₀ l₀ binary64 (sym told-number ∙ z) .before
+  told-run (inr high) = ordered-after rows cols (settingsOf s) w₀ l₀ binary64 (rw told-number at high)
+
   -- ---- the accumulating call on the same input
 
   module _ (r′ : Report) (w′ : Work)
@@ -86,22 +93,15 @@ module _ (rows cols : ℕ) (s : Settings) (w₀ : Work) (l₀ : List Float) (r :
     full-free e =
         a′ ∙ accepted-outcome binary64 true rows cols (settingsOf s) w₀ (lent-none rows cols (settingsOf s) w₀ l₀ e .1)
 
-    -- which it was where the run was made,
-    free :
-        (r .refusal .number ≡ 0) ⊎ (12 ≤ r .refusal .number) →
-        orderedRefusal rows cols (settingsOf s) w₀ l₀ .number ≡ 0
-    free (inl z) = sorts rows cols (settingsOf s) w₀ l₀ binary64 (sym told-number ∙ z) .before
-    free (inr high) = ordered-after rows cols (settingsOf s) w₀ l₀ binary64 (rw told-number at high)
-
-    -- and then word, counts and matrix are the same
+    -- so where the run was made word, counts and matrix are the same
     pub as-full :
         (r .refusal .number ≡ 0) ⊎ (12 ≤ r .refusal .number) →
         (wordIn (r .word) ≡ wordIn (r′ .word))
         × (tallyOf (r .tally) ≡ tallyOf (r′ .tally))
         × (w .matrix ≡ w′ .matrix)
     as-full h =
-        let q = runsOf (a ∙ ran-on rows cols (settingsOf s) w₀ l₀ binary64 (free h)) in
-        let q′ = full-free (free h) in
+        let q = runsOf (a ∙ ran-on rows cols (settingsOf s) w₀ l₀ binary64 (told-run h)) in
+        let q′ = full-free (told-run h) in
         let same = Laws.as-ran binary64 rows cols (settingsOf s) w₀ l₀ in (
           ap (λ (o : Outcome). o .report .word) q ∙ same .0 ∙ ap (λ (o : Outcome). o .report .word) (sym q′),
           ap (λ (o : Outcome). o .report .tally) q ∙ same .1 ∙ ap (λ (o : Outcome). o .report .tally) (sym q′),
