@@ -6,6 +6,7 @@ pub mod Runs
 pub mod Moved
 pub mod Calls
 pub mod Ordered
+pub mod Cases
 use mathlib.Core.Path.{_≡_}
 use mathlib.Core.Logic.{_⊎_}
 use mathlib.Core.Bool.{true}
