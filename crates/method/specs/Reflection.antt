@@ -222,7 +222,7 @@ module _ (f : Format) where
   unfolding reflectedRight
   reflectedRight-length p tau stride i j rows cols a =
       repeated-keep 0 _ (λ (l : List Float). length l ≡ length a)
-      (λ k l e. rowReflected-length p tau ((i + k) * stride + j) cols l ∙ e) rows a refl
+      (λ k l e. rowReflected-length p _ _ cols l ∙ e) rows a refl
 
   pub rowLessAll-length : (w : List Float) (off n : ℕ) (a : List Float) → length (rowLessAll f w off n a) ≡ length a
   unfolding rowLessAll

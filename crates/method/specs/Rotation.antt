@@ -94,10 +94,10 @@ module _ (f : Format) (g : Rotation) where
   unfolding rowsTurned
   rowsTurned-length stride i j n a =
       repeated-keep 0 _ (λ (l : List Float). length l ≡ length a)
-      (λ k l e. pairTurned-length (i * stride + (j + k)) ((i + 1) * stride + (j + k)) l ∙ e) n a refl
+      (λ k l e. pairTurned-length _ _ l ∙ e) n a refl
 
   pub columnsTurned-length : (stride i j n : ℕ) (a : List Float) → length (columnsTurned f g stride i j n a) ≡ length a
   unfolding columnsTurned
   columnsTurned-length stride i j n a =
       repeated-keep 0 _ (λ (l : List Float). length l ≡ length a)
-      (λ k l e. pairTurned-length ((j + k) * stride + i) ((j + k) * stride + (i + 1)) l ∙ e) n a refl
+      (λ k l e. pairTurned-length _ _ l ∙ e) n a refl
