@@ -16,11 +16,11 @@ pub enum Way {
     Copied,
     /// Two rows are exchanged, and all else is the same.
     Exchanged,
-    /// Each row is any row of the first; the other factor is the same in every second pair, else drawn
+    /// Each row is any row of the first; the other factor is the same in half of the pairs, else drawn
     /// anew.
     Rearranged,
-    /// One row is that of the identity in both, and all else is drawn; but in every second pair the
-    /// first run begins with the identity.
+    /// One row is that of the identity in both, and all else is drawn; but in half of the pairs the
+    /// first run begins with the identity itself.
     Identity,
     /// Rows of zeros of either sign and NaNs stand among drawn ones; one of them is copied to any place.
     Zeros,
@@ -167,7 +167,7 @@ pub fn drawn(seed: u64, number: u64, sizes: Sizes) -> Pair {
             vec![(from, any(draw))]
         }
     };
-    // In every second pair the NaNs of a copy have bits of their own.
+    // In half of the pairs the NaNs of a copy have bits of their own.
     let fresh = draw.below(2) == 0;
     for &(from, to) in &rows {
         let mut row = row_of(&one[kept], size, from).to_vec();
@@ -213,8 +213,10 @@ pub fn stored() -> Vec<Pair> {
             break;
         }
         let pair = drawn(0x9A16, number, Sizes::UpTo(6));
-        let wanted = |at: &usize| found[*at].is_none() && open[*at].0 == pair.way;
-        let wanted = |at: &usize| wanted(at) && open[*at].1 == pair.side;
+        let wanted = |at: &usize| {
+            let (way, side, _) = open[*at];
+            found[*at].is_none() && (way, side) == (pair.way, pair.side)
+        };
         let places: Vec<usize> = (0..open.len()).filter(wanted).collect();
         let lengths = [pair.runs[0].rows, pair.runs[0].cols];
         if places.is_empty() || lengths[pair.side as usize] == 1 {
