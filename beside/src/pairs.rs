@@ -442,8 +442,11 @@ fn minus_zero(x: f64) -> bool {
     x == 0.0 && x.is_sign_negative()
 }
 
+/// How many are met in a pair.
+type Count = fn(&Seen) -> u64;
+
 /// What is counted of a pair. Rows that end are those of the accumulating call.
-pub const COUNTS: [(&str, fn(&Seen) -> u64); 28] = [
+pub const COUNTS: [(&str, Count); 28] = [
     ("pairs", |_| 1),
     ("  a row copied", |seen| seen.way(Way::Copied)),
     ("  two rows exchanged", |seen| seen.way(Way::Exchanged)),

@@ -368,28 +368,21 @@ fn the_rows_are_told() {
     );
     assert_eq!(broken(&pair, &wrong), Some(told));
 
-    let inside = |_: &Pair, began: &Began, _: &[Reply; 2]| {
-        let [one, other] = match began.alike[..] {
-            [two] => two,
-            _ => return false,
-        };
-        one.run == 0 && other.run == 0 && !began.zeros.contains(&one)
-    };
-    // No way makes two rows of one run alike by themselves: such a pair is a drawn one, changed.
-    let made = |pair: Pair| {
-        let mut pair = pair;
-        let (u, v) = pair.runs[0].factors();
+    // No way makes two rows of one run alike by themselves: row 0 of the first run's U is put in the
+    // place of its row 1.
+    let made = |mut pair: Pair| {
+        let (mut u, v) = pair.runs[0].factors();
         let size = pair.runs[0].rows;
-        let mut changed = u.clone();
         if size > 1 {
-            changed.copy_within(..size, size);
+            u.copy_within(..size, size);
         }
-        pair.runs[0].start = Start::Given(changed, v);
-        pair.way = Way::Copied;
-        let (began, replies) = (pair.began(), replies(&pair, Call::Accumulating));
-        inside(&pair, &began, &replies).then_some((pair, replies))
+        (pair.way, pair.runs[0].start) = (Way::Copied, Start::Given(u, v));
+        let began = pair.began();
+        let inside = |two: &[Place; 2]| two.iter().all(|place| place.run == 0);
+        let alone = began.alike.len() == 1 && inside(&began.alike[0]) && began.zeros.is_empty();
+        alone.then(|| (replies(&pair, Call::Accumulating), pair))
     };
-    let (pair, mut wrong) = pairs(19, 100_000).find_map(made).expect("such a pair");
+    let (mut wrong, pair) = pairs(19, 100_000).find_map(made).expect("such a pair");
     assert_eq!(broken(&pair, &wrong), None);
     wrong[0].u[0] = other_than(wrong[0].u[0]);
     let told = "row 0 of the first run's U and row 1 of the first run's U, which began alike";
@@ -489,13 +482,11 @@ impl Words {
     /// A run that is lent U and V where it is one, its replies to the accumulating and the ordered call.
     fn run(&mut self) -> (Run, [Reply; 2]) {
         let head: Vec<u64> = (0..14).map(|_| self.next()).collect();
-        let [call, given, matrix, u, v, values, differ] =
-            [7, 8, 9, 10, 11, 12, 13].map(|at| head[at]);
-        let (call, differ) = (
-            [Call::Plain, Call::Accumulating, Call::Ordered][call as usize],
-            differ,
-        );
+        let [call, given, matrix, u, v, values, differ] = head[7..] else {
+            unreachable!()
+        };
         assert_eq!(differ, 0);
+        let call = [Call::Plain, Call::Accumulating, Call::Ordered][call as usize];
         let [matrix, u, v, values] = [matrix, u, v, values].map(|many| many as usize);
         let run = Run {
             rows: head[0] as usize,
