@@ -2,7 +2,8 @@
 //! and the law of pairs on the replies of both.
 
 use crate::{differs, library};
-use beside::pairs::{Began, COUNTS, Pair, Seen, counted};
+use beside::kinds::Sizes;
+use beside::pairs::{Began, COUNTS, Pair, Seen, counted, drawn};
 use beside::run::{Call, Reply};
 
 /// The replies to both runs of a pair, of the accumulating and of the ordered call.
@@ -35,6 +36,9 @@ impl Replies {
     }
 }
 
+/// What a line says where the law is broken.
+const LAW: &str = "law of pairs";
+
 /// All that is wrong, a line each: where the library's replies differ from the original's, and where the
 /// replies of either break the law.
 pub fn wrong(pair: &Pair, began: &Began, library: &Replies, original: &Replies) -> Vec<String> {
@@ -48,7 +52,7 @@ pub fn wrong(pair: &Pair, began: &Began, library: &Replies, original: &Replies) 
         }
         for (replies, whose) in [(got, "library"), (must, "original")] {
             if let Some(what) = pair.broken(began, [&replies[0], &replies[1]]) {
-                lines.push(format!("{name} call, law of pairs, {whose}: {what}"));
+                lines.push(format!("{name} call, {LAW}, {whose}: {what}"));
             }
         }
     }
@@ -70,4 +74,14 @@ pub fn check(pair: &Pair) -> Result<[u64; COUNTS.len()], String> {
         kept: [&kept[0], &kept[1]],
         ordered: [&ordered[0], &ordered[1]],
     }))
+}
+
+/// A small pair of the seed that is wrong, too, with what is wrong with it; by the law where this one is.
+pub fn smaller(seed: u64, wrong: &str) -> Option<(Pair, String)> {
+    let sizes = [2, 3, 4, 6].map(Sizes::UpTo).into_iter();
+    let mut pairs = sizes.flat_map(|sizes| (0..1000).map(move |number| drawn(seed, number, sizes)));
+    pairs.find_map(|pair| {
+        let still = check(&pair).err()?;
+        (still.contains(LAW) || !wrong.contains(LAW)).then_some((pair, still))
+    })
 }

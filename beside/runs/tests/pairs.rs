@@ -3,7 +3,7 @@
 
 use beside::kinds::Sizes;
 use beside::pairs::{COUNTS, Pair, Side, Way, drawn};
-use runs::pairs::{Replies, check, wrong};
+use runs::pairs::{Replies, check, smaller, wrong};
 
 fn pairs(seed: u64, many: u64) -> impl Iterator<Item = Pair> {
     (0..many).map(move |number| drawn(seed, number, Sizes::UpTo(8)))
@@ -22,6 +22,12 @@ fn drawn_pairs_agree() {
     for ((name, _), many) in COUNTS.iter().zip(counts) {
         assert!(many > 0, "{name}");
     }
+}
+
+/// What is right has no small pair that is wrong.
+#[test]
+fn nothing_smaller() {
+    assert!(smaller(31, "").is_none());
 }
 
 /// What is told of replies after a change of them, the library's and the original's.

@@ -2,13 +2,14 @@
 //! how U and V begin, of the proved library beside the original, every bit, and the law of pairs on the
 //! replies of both. Pair N of a seed is always the same one, whatever the threads. `pairs only SEED N`
 //! makes that one pair alone.
-//! Ends with status 1 at the first difference, with the pair told. At the end it prints what was met.
+//! Ends with status 1 at the first difference, and tells a small pair that is wrong, too, or else the pair
+//! itself. At the end it prints what was met.
 
 use beside::kinds::Sizes;
 use beside::pairs::{COUNTS, drawn};
 use beside::run::Run;
 use runs::lots::{self, all, ended, met, number};
-use runs::pairs::check;
+use runs::pairs::{check, smaller};
 use std::process::ExitCode;
 use std::time::Instant;
 
@@ -45,12 +46,22 @@ impl Counts {
 /// Pair `number`, or what is wrong with it.
 fn one(seed: u64, number: u64, counts: &mut Counts) -> Result<(), String> {
     let pair = drawn(seed, number, Sizes::All);
-    let seen = check(&pair)
-        .map_err(|wrong| format!("pair {number} of seed {seed}: {}{wrong}", pair.told()))?;
+    let Run { rows, cols, .. } = pair.runs[0];
+    let seen = check(&pair).map_err(|wrong| {
+        let place = format!("pair {number} of seed {seed}, {rows} x {cols}\n{wrong}");
+        match smaller(seed, &wrong) {
+            Some((least, still)) => {
+                format!(
+                    "{place}\na small pair that is wrong, too:\n{}{still}",
+                    least.told()
+                )
+            }
+            None => format!("{place}\n{}", pair.told()),
+        }
+    })?;
     for (to, many) in counts.counts.iter_mut().zip(seen) {
         *to += many;
     }
-    let Run { rows, cols, .. } = pair.runs[0];
     counts.shapes[(rows - 1) * 48 + cols - 1] += 1;
     Ok(())
 }
