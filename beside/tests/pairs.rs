@@ -2,7 +2,7 @@
 //! ones, and replies that break it are seen, whichever sentence they break.
 
 use beside::Report;
-use beside::kinds::Sizes;
+use beside::kinds::{Sizes, TABLES};
 use beside::pairs::{
     Began, COUNTS, Pair, Place, SIDES, Seen, Side, WAYS, Way, counted, drawn, stored,
 };
@@ -54,7 +54,9 @@ fn a_pair_is_always_the_same() {
 
 #[test]
 fn two_fit_runs_of_one_table() {
+    let mut kinds = [0; TABLES.len()];
     for pair in pairs(5, 2_000) {
+        kinds[pair.table] += 1;
         let [one, other] = &pair.runs;
         assert_eq!((one.rows, one.cols), (other.rows, other.cols));
         assert_eq!(one.settings, other.settings);
@@ -64,6 +66,7 @@ fn two_fit_runs_of_one_table() {
             assert_eq!(run.refusal(Call::Ordered), None, "{}", pair.told());
         }
     }
+    assert!(kinds.iter().all(|&many| many > 30), "{kinds:?}");
 }
 
 /// The rows that the way makes alike are so, and what it says of the rest.
