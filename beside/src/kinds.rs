@@ -332,8 +332,12 @@ fn equal_values(draw: &mut Draw, rows: usize, cols: usize) -> Vec<f64> {
     table
 }
 
-/// U or V as it is lent: whole numbers, ordinary ones, with NaNs and infinities, zeros, any bits.
-fn factor(draw: &mut Draw, kind: u64, size: usize) -> Vec<f64> {
+/// The kinds of entries that U and V hold: whole numbers, ordinary ones, with NaNs and infinities, zeros,
+/// any bits.
+pub(crate) const ENTRIES: u64 = 5;
+
+/// So many entries of U or V, of the kind.
+pub(crate) fn entries(draw: &mut Draw, kind: u64, many: usize) -> Vec<f64> {
     let strange = [
         f64::NAN,
         -f64::NAN,
@@ -352,15 +356,16 @@ fn factor(draw: &mut Draw, kind: u64, size: usize) -> Vec<f64> {
         3 => of(draw, &[0.0, -0.0]),
         _ => f64::from_bits(draw.bits()),
     };
-    (0..size * size).map(&mut entry).collect()
+    (0..many).map(&mut entry).collect()
 }
 
 fn start(draw: &mut Draw, rows: usize, cols: usize) -> Start {
     if draw.below(2) == 0 {
         return Start::Identity;
     }
-    let (left, right) = (draw.below(5), draw.below(5));
-    Start::Given(factor(draw, left, rows), factor(draw, right, cols))
+    let (left, right) = (draw.below(ENTRIES), draw.below(ENTRIES));
+    let u = entries(draw, left, rows * rows);
+    Start::Given(u, entries(draw, right, cols * cols))
 }
 
 /// A list of another length.

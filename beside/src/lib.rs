@@ -9,6 +9,7 @@ pub mod cases;
 pub mod kinds;
 pub mod limits;
 pub mod order;
+pub mod pairs;
 mod record;
 pub mod refusals;
 pub mod run;

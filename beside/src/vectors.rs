@@ -3,17 +3,16 @@
 
 use crate::cases::{self, Draw};
 use crate::kinds::{Sizes, drawn, table};
-use crate::refusals;
 use crate::run::{Call, Reply, Run, Start, alike, untouched, unwritten};
 use crate::text::Case;
-use crate::{Report, Settings};
+use crate::{Report, Settings, pairs, refusals};
 use std::io::{self, Write};
 
 /// No list of a stored run may be longer: 49 x 49.
 pub const LONGEST: usize = 2401;
 
 /// The runs that are stored: the small cases, the refusals, drawn runs of every kind that make few
-/// passes, and large tables.
+/// passes, large tables, and pairs of runs, each run of a pair behind the other.
 pub fn stored() -> Vec<Run> {
     let mut runs: Vec<Run> = cases::all().into_iter().map(Run::from).collect();
     runs.extend(refusals::all().into_iter().map(|(_, _, run)| run));
@@ -26,11 +25,12 @@ pub fn stored() -> Vec<Run> {
         );
     }
     runs.extend(large());
+    runs.extend(pairs::stored().into_iter().flat_map(|pair| pair.runs));
     runs
 }
 
 /// No drawn run that is stored makes more passes.
-const MOST_PASSES: u64 = 2_000;
+pub(crate) const MOST_PASSES: u64 = 2_000;
 
 /// Readings of an anemometer and any readings in the largest shapes, with the default settings.
 fn large() -> impl Iterator<Item = Run> {

@@ -6,6 +6,9 @@ use beside::order::{diagonal, places};
 use beside::run::{Call, Reply, Run, alike, untouched, unwritten};
 use merotunki::raw;
 
+pub mod lots;
+pub mod pairs;
+
 /// What the library replies.
 pub fn library(run: &Run, call: Call) -> Reply {
     let s = &run.settings;

@@ -5,14 +5,10 @@
 
 use beside::Report;
 use beside::kinds::{Sizes, TABLES, drawn};
+use runs::lots::{self, all, ended, met, number};
 use runs::{MEETINGS, Seen, check, shrunk};
 use std::process::ExitCode;
-use std::sync::Mutex;
-use std::sync::atomic::{AtomicBool, AtomicU64, Ordering::Relaxed};
-use std::time::{Duration, Instant};
-
-/// Runs are taken in lots of this many.
-const LOT: u64 = 1000;
+use std::time::Instant;
 
 #[derive(Clone)]
 struct Counts {
@@ -34,7 +30,7 @@ struct Counts {
     meetings: [u64; MEETINGS.len()],
 }
 
-impl Counts {
+impl lots::Counts for Counts {
     fn new() -> Counts {
         Counts {
             runs: 0,
@@ -55,6 +51,29 @@ impl Counts {
         }
     }
 
+    fn join(&mut self, other: &Counts) {
+        self.runs += other.runs;
+        self.calls += other.calls;
+        let add = |to: &mut [u64], from: &[u64]| to.iter_mut().zip(from).for_each(|(a, b)| *a += b);
+        add(&mut self.numbers, &other.numbers);
+        add(&mut self.words, &other.words);
+        add(&mut self.shapes, &other.shapes);
+        add(&mut self.meetings, &other.meetings);
+        for (to, from) in self.tables.iter_mut().zip(&other.tables) {
+            add(to, from);
+        }
+        self.greater += other.greater;
+        self.reached += other.reached;
+        self.nan += other.nan;
+        self.infinite += other.infinite;
+        self.passes += other.passes;
+        self.drops += other.drops;
+        self.most = self.most.max(other.most);
+        self.ordered += other.ordered;
+    }
+}
+
+impl Counts {
     fn add(&mut self, seen: &Seen, rows: usize, cols: usize, table: usize) {
         let Report {
             number,
@@ -88,27 +107,6 @@ impl Counts {
         }
     }
 
-    fn join(&mut self, other: &Counts) {
-        self.runs += other.runs;
-        self.calls += other.calls;
-        let add = |to: &mut [u64], from: &[u64]| to.iter_mut().zip(from).for_each(|(a, b)| *a += b);
-        add(&mut self.numbers, &other.numbers);
-        add(&mut self.words, &other.words);
-        add(&mut self.shapes, &other.shapes);
-        add(&mut self.meetings, &other.meetings);
-        for (to, from) in self.tables.iter_mut().zip(&other.tables) {
-            add(to, from);
-        }
-        self.greater += other.greater;
-        self.reached += other.reached;
-        self.nan += other.nan;
-        self.infinite += other.infinite;
-        self.passes += other.passes;
-        self.drops += other.drops;
-        self.most = self.most.max(other.most);
-        self.ordered += other.ordered;
-    }
-
     fn print(&self) {
         println!(
             "{} runs, {} calls of the library, each with one of the original",
@@ -139,14 +137,7 @@ impl Counts {
         println!("shapes accepted {shapes} of 2304, each at least {least} times");
         println!("ordered calls {}", self.ordered);
         for (many, (name, _)) in self.meetings.iter().zip(MEETINGS) {
-            println!(
-                "  {name}: {}",
-                if *many == 0 {
-                    "never".into()
-                } else {
-                    many.to_string()
-                }
-            );
+            println!("  {name}: {}", met(*many));
         }
         println!(
             "{:28}{:>10}{:>10}{:>10}{:>16}",
@@ -188,70 +179,21 @@ fn one(seed: u64, number: u64, counts: &mut Counts) -> Result<(), String> {
     }
 }
 
-fn all(count: u64, seed: u64, threads: u64) -> Result<Counts, String> {
-    let (next, done, ended) = (AtomicU64::new(0), AtomicU64::new(0), AtomicBool::new(false));
-    let wrong = Mutex::new(None::<String>);
-    let whole = Mutex::new(Counts::new());
-    let start = Instant::now();
-    let work = || {
-        let mut counts = Counts::new();
-        loop {
-            let first = next.fetch_add(LOT, Relaxed);
-            if first >= count || ended.load(Relaxed) {
-                break;
-            }
-            for number in first..count.min(first + LOT) {
-                if let Err(text) = one(seed, number, &mut counts) {
-                    wrong.lock().unwrap().get_or_insert(text);
-                    ended.store(true, Relaxed);
-                    break;
-                }
-            }
-            done.fetch_add(LOT.min(count - first), Relaxed);
-        }
-        whole.lock().unwrap().join(&counts);
-    };
-    std::thread::scope(|scope| {
-        let workers: Vec<_> = (0..threads).map(|_| scope.spawn(work)).collect();
-        let mut told = Instant::now();
-        while workers.iter().any(|worker| !worker.is_finished()) {
-            std::thread::sleep(Duration::from_millis(50));
-            if told.elapsed() > Duration::from_secs(10) {
-                told = Instant::now();
-                let made = done.load(Relaxed);
-                let rate = made as f64 / start.elapsed().as_secs_f64();
-                eprintln!("{made} of {count} runs, {rate:.0} a second");
-            }
-        }
-    });
-    match wrong.into_inner().unwrap() {
-        Some(text) => Err(text),
-        None => Ok(whole.into_inner().unwrap()),
-    }
-}
-
-fn number(words: &[String], at: usize, default: u64) -> Result<u64, String> {
-    match words.get(at) {
-        None => Ok(default),
-        Some(word) => word
-            .parse()
-            .map_err(|_| format!("`{word}` is not a number")),
-    }
-}
-
 fn told() -> Result<(), String> {
     let words: Vec<String> = std::env::args().skip(1).collect();
     if words.first().is_some_and(|word| word == "only") {
         let (seed, run) = (number(&words, 1, 1)?, number(&words, 2, 0)?);
         print!("{}", drawn(seed, run, Sizes::All).0.told());
-        one(seed, run, &mut Counts::new())?;
+        one(seed, run, &mut lots::Counts::new())?;
         println!("no difference");
         return Ok(());
     }
-    let threads = std::thread::available_parallelism().map_or(1, |many| many.get() as u64);
     let (count, seed) = (number(&words, 0, 10_000_000)?, number(&words, 1, 1)?);
+    let threads = number(&words, 2, lots::threads())?;
     let start = Instant::now();
-    let counts = all(count, seed, number(&words, 2, threads)?)?;
+    let counts: Counts = all((count, "runs"), threads, |number, counts| {
+        one(seed, number, counts)
+    })?;
     counts.print();
     println!(
         "seed {seed}: {count} runs, 0 differ, {:.0} seconds",
@@ -261,11 +203,5 @@ fn told() -> Result<(), String> {
 }
 
 fn main() -> ExitCode {
-    match told() {
-        Ok(()) => ExitCode::SUCCESS,
-        Err(text) => {
-            println!("{text}");
-            ExitCode::FAILURE
-        }
-    }
+    ended(told())
 }
