@@ -1,4 +1,4 @@
--- What a row of zeros can end as, by two small tables, computed: with a -0, and as NaNs. So no less than `ZeroOrNan` is
+-- What a row of zeros can end as, by two small tables, computed: with a -0, and as NaNs. So no more than `ZeroOrNan` is
 -- true of it. The answers are the original's. Assumes nothing.
 use mathlib.Core.Path.{_≡_, refl}
 use mathlib.Core.List.{List, [], _∷_}
