@@ -5,11 +5,11 @@ pub mod Parts
 pub mod Alone
 use mathlib.Core.Path.{_≡_, refl, sym, ap, _∙_}
 use mathlib.Core.Bool.{Bool, true, false, not}
-use Prim.Native.Nat.{ℕ, zero, suc, _+_, _-_, _<_, _≤_}
+use Prim.Native.Nat.{ℕ, _+_, _-_, _<_, _≤_}
 use native.Mathlib.Omega.{arith}
 use lib.Dec.{eqb}
 use lib.Ieee.{Float, Format}
-use Rattle.method.specs.Repeated.{repeated, go}
+use Rattle.method.specs.Repeated.{repeated-both}
 use Rattle.method.specs.Work.{Work, Shape, at}
 use Rattle.method.specs.Rotation.{Rotation}
 use Rattle.method.specs.Bidiagonal.{columnZeroed, rowZeroed, firstZeroed, thenZeroed, placesZeroed, bidiagonal}
@@ -18,19 +18,6 @@ use Rattle.method.specs.Walk.{Walk, run, enough, begun, stands}
 use Rattle.method.specs.Walk.Alike.{Alike, run-alike}
 use Rattle.method.specs.Outcome.{card, isUpper, rulesOf, walkedFrom}
 use Rattle.method.specs.Settings.{Settings}
-
--- what each turn from lo to hi - 1 of two loops keeps between them, the whole loops keep
-pub repeated-both :
-    {S S′ : Type 0} (R : S → S′ → Type 0) (lo hi : ℕ) (step : ℕ → S → S) (step′ : ℕ → S′ → S′) →
-    ((k : ℕ) (s : S) (s′ : S′) → lo ≤ k → k < hi → R s s′ → R (step k s) (step′ k s′)) →
-    (s : S) (s′ : S′) → R s s′ → R (repeated lo hi step s) (repeated lo hi step′ s′)
-unfolding repeated go
-repeated-both R lo hi step step′ both s s′ r = walk (hi - lo) (omega arith)
-  where
-    walk : (n : ℕ) → n ≤ hi - lo → R (go lo step n s) (go lo step′ n s′)
-    walk zero h = r
-    walk (suc n) h =
-        both (lo + n) (go lo step n s) (go lo step′ n s′) (omega arith) (omega arith) (walk n (omega arith))
 
 -- The relation R between works of the shapes z and z′ is kept by the three operations, at every place in the first c
 -- rows and columns that a run uses, and related works have the same entries there.

@@ -2,9 +2,13 @@
 -- order. Every loop of the method is written so. Its laws are what the proofs of the code and of the lengths go by.
 -- Assumes nothing.
 use mathlib.Core.Path.{_≡_, refl, sym, ap, _∙_}
+use mathlib.Core.Bool.{Bool, true, false}
 use Prim.Native.Nat.{ℕ, zero, suc, _+_, _-_, _<_, _≤_, zero-le}
+use native.Mathlib.Nat.{zero-add}
 use native.Mathlib.Numerals.{add-one}
 use native.Mathlib.Omega.{arith}
+use lib.Dec.{eqb}
+use borrow.Author.Tests.{eqb-true, eqb-false}
 
 -- n turns, the first of which is numbered lo
 unfoldable pub go : {S : Type 0} → ℕ → (ℕ → S → S) → ℕ → S → S
@@ -14,6 +18,26 @@ go lo step (suc n) s = step (lo + n) (go lo step n s)
 unfoldable pub repeated : {S : Type 0} → ℕ → ℕ → (ℕ → S → S) → S → S
 unfolding go
 repeated lo hi step s = go lo step (hi - lo) s
+
+-- what each turn from lo to hi - 1 of two loops keeps between them, the whole loops keep
+pub repeated-both :
+    {S S′ : Type 0} (R : S → S′ → Type 0) (lo hi : ℕ) (step : ℕ → S → S) (step′ : ℕ → S′ → S′) →
+    ((k : ℕ) (s : S) (s′ : S′) → lo ≤ k → k < hi → R s s′ → R (step k s) (step′ k s′)) →
+    (s : S) (s′ : S′) → R s s′ → R (repeated lo hi step s) (repeated lo hi step′ s′)
+unfolding repeated go
+repeated-both R lo hi step step′ both s s′ r = walk (hi - lo) (omega arith)
+  where
+    walk : (n : ℕ) → n ≤ hi - lo → R (go lo step n s) (go lo step′ n s′)
+    walk zero h = r
+    walk (suc n) h =
+        both (lo + n) (go lo step n s) (go lo step′ n s′) (omega arith) (omega arith) (walk n (omega arith))
+
+-- what each turn from lo to hi - 1 keeps, the loop keeps
+pub repeated-within :
+    {S : Type 0} (P : S → Type 0) (lo hi : ℕ) (step : ℕ → S → S) →
+    ((k : ℕ) (s : S) → lo ≤ k → k < hi → P s → P (step k s)) → (s : S) → P s → P (repeated lo hi step s)
+repeated-within P lo hi step keeps s p =
+    repeated-both (λ s s′. P s) lo hi step step (λ k s s′ l h q. keeps k s l h q) s s p
 
 module _ {S : Type 0} (lo : ℕ) (step : ℕ → S → S) where
   -- where the loop begins
@@ -29,26 +53,10 @@ module _ {S : Type 0} (lo : ℕ) (step : ℕ → S → S) where
       let b : lo + (k - lo) ≡ k = omega arith in
       rw (d, b, e)
 
-  -- what each turn keeps, the whole loop keeps
+  -- what each turn keeps, whichever it is, the whole loop keeps
   pub repeated-keep :
       (P : S → Type 0) → ((k : ℕ) (s : S) → P s → P (step k s)) → (hi : ℕ) (s : S) → P s → P (repeated lo hi step s)
-  unfolding repeated go
-  repeated-keep P keeps hi s p = walk (hi - lo) where
-    walk : (n : ℕ) → P (go lo step n s)
-    walk zero = p
-    walk (suc n) = keeps (lo + n) (go lo step n s) (walk n)
-
--- what each turn of two loops keeps between them, the whole loops keep
-pub repeated-alike :
-    {S S′ : Type 0} (R : S → S′ → Type 0) (lo : ℕ) (step : ℕ → S → S) (step′ : ℕ → S′ → S′) →
-    ((k : ℕ) (s : S) (s′ : S′) → R s s′ → R (step k s) (step′ k s′)) →
-    (hi : ℕ) (s : S) (s′ : S′) → R s s′ → R (repeated lo hi step s) (repeated lo hi step′ s′)
-unfolding repeated go
-repeated-alike R lo step step′ both hi s s′ r = walk (hi - lo)
-  where
-    walk : (n : ℕ) → R (go lo step n s) (go lo step′ n s′)
-    walk zero = r
-    walk (suc n) = both (lo + n) (go lo step n s) (go lo step′ n s′) (walk n)
+  repeated-keep P keeps hi s p = repeated-within P lo hi step (λ k s l h q. keeps k s q) s p
 
 -- from 0 no side condition is left: a goal is rewritten by the bare name
 pub repeated-next :
@@ -70,3 +78,31 @@ repeated-same step step′ (suc k) s h =
     ∙ h k (repeated 0 k step s) (omega arith)
     ∙ ap (step′ k) (repeated-same step step′ k s (λ i t l. h i t (omega arith)))
     ∙ sym (repeated-suc step′ k s)
+
+-- a loop of which turn k alone changes what is looked at
+pub repeated-one :
+    {S T : Type 0} (look : S → T) (change : T → T) (k hi : ℕ) (step : ℕ → S → S) →
+    k < hi →
+    ((s : S) → look (step k s) ≡ change (look s)) →
+    ((l : ℕ) (s : S) → ¬ (l ≡ k) → look (step l s) ≡ look s) →
+    (s : S) → look (repeated 0 hi step s) ≡ change (look s)
+unfolding repeated go
+repeated-one look change k hi step within here else s = after (hi - 0) (omega arith)
+  where
+    before : (n : ℕ) → n ≤ k → look (go 0 step n s) ≡ look s
+    before zero h = refl
+    before (suc n) h = else (0 + n) (go 0 step n s) (λ e. omega arith) ∙ before n (omega arith)
+
+    after : (n : ℕ) → k < n → look (go 0 step n s) ≡ change (look s)
+    after zero h = absurd (omega arith)
+    after (suc n) h = choose (eqb n k) refl (λ l. after n l)
+      where
+        choose :
+            (t : Bool) → eqb n k ≡ t → (k < n → look (go 0 step n s) ≡ change (look s)) →
+            look (step (0 + n) (go 0 step n s)) ≡ change (look s)
+        choose true e more =
+            let q : n ≡ k = eqb-true n k e in
+            rw (zero-add n, q) (here (go 0 step k s) ∙ ap change (before k (omega arith)))
+        choose false e more =
+            let q : ¬ (n ≡ k) = eqb-false n k e in
+            else (0 + n) (go 0 step n s) (λ p. q (sym (zero-add n) ∙ p)) ∙ more (omega arith)

@@ -9,7 +9,7 @@ use lib.Dec.{ltb, eqb}
 use lib.ListN.{getD, set}
 use lib.Ieee.{Float, nan, inf, fin, Format, prec, emax, low, unlike, up, down, odd, units, round, neg, add, sub, mul}
 use Rattle.method.specs.Floats.{pick, magnitude, negative, signed}
-use Rattle.method.specs.Repeated.{repeated, repeated-alike}
+use Rattle.method.specs.Repeated.{repeated, repeated-both}
 use Rattle.method.specs.Rotation.{Rotation, pairTurned, columnsTurned}
 
 -- ---- the negative of a float
@@ -145,11 +145,10 @@ pub columnsTurned-back :
     columnsTurnedBack f g stride i j n a ≡ columnsTurned f g stride i j n a
 unfolding columnsTurnedBack columnsTurned
 columnsTurned-back f g stride i j n a =
-    repeated-alike (λ (l l′ : List Float). l ≡ l′) 0 _ _
-    (λ k l l′ e.
+    repeated-both (λ (l l′ : List Float). l ≡ l′) 0 n _ _
+    (λ k l l′ lo hi e.
     pairTurned-back f g ((j + k) * stride + i) ((j + k) * stride + (i + 1)) l
     ∙ ap (pairTurned f g ((j + k) * stride + i) ((j + k) * stride + (i + 1))) e)
-    n
     a
     a
     refl

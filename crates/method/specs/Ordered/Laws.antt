@@ -35,6 +35,17 @@ accepted-lengths :
 unfolding accepted
 accepted-lengths f rows cols s w = walkedFrom-lengths f (packed true rows cols) rows cols s w
 
+-- ---- the list of values: of c entries it is written whole
+
+module _ (c : ℕ) (q : ℕ → ℕ) (d : ℕ → Float) (l : List Float) (long : length l ≡ c) where
+  pub valuesBy-length : length (valuesBy c q d l) ≡ c
+  unfolding valuesBy
+  valuesBy-length = length-writes (λ k. k) (λ k. magnitude (d (q k))) c l ∙ long
+
+  pub valuesBy-at : (k : ℕ) → k < c → getD (valuesBy c q d l) k nan ≡ magnitude (d (q k))
+  unfolding valuesBy
+  valuesBy-at k h = written (λ k. k) (λ k. magnitude (d (q k))) nan l c k h (λ i g. omega arith) (λ i j g m e. e)
+
 module _ (f : Format) (rows cols : ℕ) (s : Settings) (w : Work) (l : List Float) where
   -- the run; c values; d, its diagonal; p k, the old position of value k; the new place of the old position i
   abbrev pub ran : Outcome
@@ -140,13 +151,10 @@ module _ (f : Format) (rows cols : ℕ) (s : Settings) (w : Work) (l : List Floa
 
     -- ---- the list
     pub values-length : length values ≡ c
-    unfolding valuesBy
-    values-length = length-writes (λ k. k) (λ k. magnitude (d (p k))) c l ∙ a .list
+    values-length = valuesBy-length c p d l (a .list)
 
     pub value-at : (k : ℕ) → k < c → getD values k nan ≡ magnitude (d (p k))
-    unfolding valuesBy
-    value-at k h =
-        written (λ k. k) (λ k. magnitude (d (p k))) nan l c k h (λ i g. omega (arith, a .list)) (λ i j g m e. e)
+    value-at = valuesBy-at c p d l (a .list)
 
     -- a rearrangement: the magnitude of each diagonal entry stands at its new place
     pub value-of : (i : ℕ) → i < c → getD values (place i) nan ≡ magnitude (d i)

@@ -95,7 +95,7 @@ module _ (n : ℕ) (q : ℕ → ℕ) (a : List Float) (square : length a ≡ n *
 abbrev pub Square : ℕ → ℕ → Work → Type 0
 Square rows cols w = (side : Side) → length (factor side w) ≡ sizeOf side rows cols * sizeOf side rows cols
 
-pub exchange-within : (n i j k : ℕ) → i < n → j < n → k < n → exchange i j k < n
+exchange-within : (n i j k : ℕ) → i < n → j < n → k < n → exchange i j k < n
 exchange-within n i j k h g l = go (eqb k i) (eqb k j)
   where
     go : (a b : Bool) → pick a j (pick b i k) < n
@@ -133,7 +133,7 @@ module _ {rows cols : ℕ} {w₀ w₀′ w w′ : Work} (own : OwnRows rows cols
       (sym (rowsBy-row n q (factor side w₀) (square₀ side) within k h) ∙ ap (rowOf n k) (sym e))))
 
   -- a factor that began as another ended as it
-  pub own-same :
+  own-same :
       (side : Side) → Square rows cols w → Square rows cols w′ → factor side w₀ ≡ factor side w₀′ →
       factor side w′ ≡ factor side w
   own-same side square square′ e =

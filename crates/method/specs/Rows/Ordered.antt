@@ -10,8 +10,7 @@ use borrow.Author.Tests.{eqb-true, eqb-false, ltb-true, ltb-false}
 use lib.ListN.{length, getD}
 use lib.Seq.{ext-getD}
 use lib.Ieee.{Float, nan, Format}
-use Rattle.method.specs.Floats.{magnitude, signed}
-use Rattle.method.specs.Writes.{writes, length-writes, written}
+use Rattle.method.specs.Floats.{signed}
 use Rattle.method.specs.Work.{Work, at}
 use Rattle.method.specs.View.{rowOf}
 use Rattle.method.specs.View.Rows.{row-length}
@@ -28,6 +27,7 @@ use Rattle.method.specs.Order.Columns.{moved, stays, length-rowsMoved}
 use Rattle.method.specs.Ordered.{Ordered, orderedOf, lentChecks, orderedRefusal, movedBy, putInOrder}
 use Rattle.method.specs.Ordered.{orderedOutcome}
 use Rattle.method.specs.Ordered.Ways.{lent-passed, ran-on, foundAfter, refused-after, put-in-order}
+use Rattle.method.specs.Ordered.Laws.{valuesBy-length, valuesBy-at}
 use Rattle.method.specs.Ordered.Numbers.{lent-fit, lent-none, run-fine}
 use Rattle.method.specs.Rows.{Side, left, right, sizeOf, rowAt, OwnRows, ZeroRow, exchanged}
 use Rattle.method.specs.Rows.Steps.{row-get}
@@ -156,23 +156,14 @@ pub record OwnOrdered (rows cols : ℕ) (w₀ w₀′ : Work) (l l′ : List Flo
   pub values : o .run .report .refusal .number ≡ 0 → o .values ≡ o′ .values
   pub same-values : l ≡ l′ → o .values ≡ o′ .values
 
--- a list of c entries is written whole
+-- whatever the list held
 values-any :
     (c : ℕ) (q : ℕ → ℕ) (d : ℕ → Float) (l l′ : List Float) → length l ≡ c → length l′ ≡ c →
     valuesBy c q d l ≡ valuesBy c q d l′
-unfolding valuesBy
 values-any c q d l l′ e e′ =
-    ext-getD nan (writes (λ k. k) v c l) (writes (λ k. k) v c l′) (long l e ∙ sym (long l′ e′))
-    (λ k h. let h′ : k < c = rw (long l e) at h in at-place l e k h′ ∙ sym (at-place l′ e′ k h′))
-  where
-    v : ℕ → Float
-    v k = magnitude (d (q k))
-
-    long : (l : List Float) → length l ≡ c → length (writes (λ k. k) v c l) ≡ c
-    long l e = length-writes (λ k. k) v c l ∙ e
-
-    at-place : (l : List Float) → length l ≡ c → (k : ℕ) → k < c → getD (writes (λ k. k) v c l) k nan ≡ v k
-    at-place l e k h = written (λ k. k) v nan l c k h (λ i g. omega arith) (λ i j g m z. z)
+    let long = valuesBy-length c q d l e in
+    ext-getD nan (valuesBy c q d l) (valuesBy c q d l′) (long ∙ sym (valuesBy-length c q d l′ e′))
+    (λ k h. let h′ : k < c = rw long at h in valuesBy-at c q d l e k h′ ∙ sym (valuesBy-at c q d l′ e′ k h′))
 
 -- where the runs have the same report, and rows that began alike are alike, so it is in order
 put-own :

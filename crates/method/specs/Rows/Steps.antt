@@ -3,57 +3,19 @@
 use mathlib.Core.Path.{_≡_, refl, sym, ap, _∙_}
 use mathlib.Core.Bool.{Bool, true, false}
 use mathlib.Core.List.{List}
-use Prim.Native.Nat.{ℕ, zero, suc, _+_, _-_, _*_, _<_, _≤_}
+use Prim.Native.Nat.{ℕ, _+_, _-_, _*_, _<_, _≤_}
 use native.Mathlib.Nat.{zero-add, add-assoc}
 use native.Mathlib.Omega.{arith}
-use lib.Dec.{eqb, ltb}
-use borrow.Author.Tests.{eqb-true, eqb-false, ltb-true, ltb-false}
+use lib.Dec.{ltb}
+use borrow.Author.Tests.{ltb-true, ltb-false}
 use lib.ListN.{getD, set, take, drop}
 use lib.Seq.{take-set-le, drop-set-lt, take-set-lt, drop-set-add, getD-take, getD-drop}
 use lib.Ieee.{Float, nan, Format}
-use Rattle.method.specs.Repeated.{repeated, go}
+use Rattle.method.specs.Repeated.{repeated-both, repeated-within, repeated-one}
 use Rattle.method.specs.Index.{row-in}
 use Rattle.method.specs.View.{rowOf}
 use Rattle.method.specs.Rotation.{Rotation, pairTurned, columnsTurned}
 use Rattle.method.specs.Reflection.{rowTimes, tailLess, rowLess, rowReflected, reflectedRight}
-use Rattle.method.specs.Relation.{repeated-both}
-
--- ---- loops
-
--- what each turn from lo to hi - 1 keeps, the loop keeps
-pub repeated-within :
-    {S : Type 0} (P : S → Type 0) (lo hi : ℕ) (step : ℕ → S → S) →
-    ((k : ℕ) (s : S) → lo ≤ k → k < hi → P s → P (step k s)) → (s : S) → P s → P (repeated lo hi step s)
-repeated-within P lo hi step keeps s p =
-    repeated-both (λ s s′. P s) lo hi step step (λ k s s′ l h q. keeps k s l h q) s s p
-
--- a loop of which turn k alone changes what is looked at
-repeated-one :
-    {S T : Type 0} (look : S → T) (change : T → T) (k hi : ℕ) (step : ℕ → S → S) →
-    k < hi →
-    ((s : S) → look (step k s) ≡ change (look s)) →
-    ((l : ℕ) (s : S) → ¬ (l ≡ k) → look (step l s) ≡ look s) →
-    (s : S) → look (repeated 0 hi step s) ≡ change (look s)
-unfolding repeated go
-repeated-one look change k hi step within here else s = after (hi - 0) (omega arith)
-  where
-    before : (n : ℕ) → n ≤ k → look (go 0 step n s) ≡ look s
-    before zero h = refl
-    before (suc n) h = else (0 + n) (go 0 step n s) (λ e. omega arith) ∙ before n (omega arith)
-
-    after : (n : ℕ) → k < n → look (go 0 step n s) ≡ change (look s)
-    after zero h = absurd (omega arith)
-    after (suc n) h = choose (eqb n k) refl (λ l. after n l)
-      where
-        choose :
-            (t : Bool) → eqb n k ≡ t → (k < n → look (go 0 step n s) ≡ change (look s)) →
-            look (step (0 + n) (go 0 step n s)) ≡ change (look s)
-        choose true e more =
-            let q : n ≡ k = eqb-true n k e in
-            rw (zero-add n, q) (here (go 0 step k s) ∙ ap change (before k (omega arith)))
-        choose false e more =
-            let q : ¬ (n ≡ k) = eqb-false n k e in
-            else (0 + n) (go 0 step n s) (λ p. q (sym (zero-add n) ∙ p)) ∙ more (omega arith)
 
 -- ---- one row of a table of n columns
 

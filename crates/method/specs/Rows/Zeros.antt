@@ -16,10 +16,10 @@ use lib.Ieee.{Float, nan, inf, fin, Format, prec, emax, low, unlike, up, down, r
 use lib.Ieee.Exact.{HasValue, round-exact}
 use lib.Ieee.Fits.{up-pos, down-pos}
 use Rattle.method.specs.Floats.{pick, negative, signed}
+use Rattle.method.specs.Repeated.{repeated-within}
 use Rattle.method.specs.Rotation.{Rotation, pairTurned}
 use Rattle.method.specs.Reflection.{rowTimes, tailLess, rowLess, rowReflected}
 use Rattle.method.specs.Rows.{ZeroOrNan, ZeroRow}
-use Rattle.method.specs.Rows.Steps.{repeated-within}
 
 -- ---- the same by cases
 
