@@ -2,9 +2,9 @@
 //! of settings, of what U, V and the list of values hold and of unfit input are drawn apart from each
 //! other, so that all of them meet.
 
-use crate::Settings;
 use crate::cases::Draw;
 use crate::run::{Call, Run, Start};
+use crate::{Settings, readings};
 
 /// The kinds of tables, by name.
 pub const TABLES: [&str; 17] = [
@@ -430,21 +430,7 @@ fn spoil(draw: &mut Draw, run: &mut Run, number: u64) {
                 _ => run.settings.floor = of(draw, &[0.0, -0.0]),
             }
         }
-        _ => {
-            let bad = [
-                f64::NAN,
-                -f64::NAN,
-                f64::from_bits(0x7FF0_0000_0000_0001),
-                f64::INFINITY,
-                f64::NEG_INFINITY,
-            ];
-            for _ in 0..1 + draw.below(2) {
-                if !run.matrix.is_empty() {
-                    let at = draw.below(run.matrix.len() as u64) as usize;
-                    run.matrix[at] = of(draw, &bad);
-                }
-            }
-        }
+        _ => readings::spoil(draw, run.cols, &mut run.matrix),
     }
 }
 

@@ -10,6 +10,7 @@ pub mod kinds;
 pub mod limits;
 pub mod order;
 pub mod pairs;
+pub mod readings;
 mod record;
 pub mod refusals;
 pub mod run;
@@ -113,7 +114,9 @@ pub fn run(
     let range = record.left.unwrap_or(1) as u64;
     Report {
         number: 0,
-        place: 0,
+        row: 0,
+        column: 0,
+        bad: 0,
         word: if range == 1 {
             Report::SETTLED
         } else {

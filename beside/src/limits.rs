@@ -98,10 +98,13 @@ fn line(case: &str) -> String {
     let parts: Vec<&str> = case.split("; ").collect();
     let run = run_of(&parts[1..]);
     let reply = run.reply(run.call);
-    let [number, place, word, counts @ ..] = reply.report.words();
+    let [number, row, column, bad, word, counts @ ..] = reply.report.words();
     let word = ["none", "settled", "stopped"][word as usize];
     let counts = counts.map(|count| count.to_string()).join(" ");
-    let mut text = format!("{}: {number} {place} {word} {counts}\n", parts[0]);
+    let mut text = format!(
+        "{}: {number} {row} {column} {bad} {word} {counts}\n",
+        parts[0]
+    );
     text += &shown('b', &reply.matrix);
     if run.call.keeps() {
         text += &shown('u', &reply.u);

@@ -6,6 +6,7 @@ use crate::Report;
 use crate::cases::Draw;
 use crate::kinds::{self, ENTRIES, Sizes, TABLES, entries};
 use crate::order::{diagonal, places};
+use crate::readings::nan;
 use crate::run::{Call, Reply, Run, Start, alike, identity};
 use crate::vectors::MOST_PASSES;
 
@@ -80,11 +81,6 @@ fn factor(draw: &mut Draw, size: usize) -> Vec<f64> {
 
 fn zero(draw: &mut Draw) -> f64 {
     [0.0, -0.0][draw.below(2) as usize]
-}
-
-/// Any bits of a NaN.
-fn nan(draw: &mut Draw) -> f64 {
-    f64::from_bits(draw.bits() & 0x800F_FFFF_FFFF_FFFF | 0x7FF0_0000_0000_0001)
 }
 
 /// Zeros of either sign, in one row of three with NaNs among them.

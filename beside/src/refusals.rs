@@ -1,8 +1,10 @@
-//! Runs that are refused: by each number in several ways, and by two numbers that follow one
-//! another, where the first counts. Then runs at the bounds of what is accepted, and runs after which
-//! the ordered call answers 12, 13, or values in order.
+//! Runs that are refused: by each number in several ways, by two numbers that follow one another and by
+//! each number together with 8, where the first counts; by 8 with bad readings in every choice of a
+//! small table's places. Then runs at the bounds of what is accepted, and runs after which the ordered
+//! call answers 12, 13, or values in order.
 
 use crate::Settings;
+use crate::readings::every_choice;
 use crate::run::{Call, Run, Start, unwritten};
 
 /// A change to a run.
@@ -22,8 +24,10 @@ pub fn all() -> Vec<(Call, u64, Run)> {
         );
     }
     add(Call::Accumulating, from_the_identity());
+    add(Call::Accumulating, bad_in_long_tables());
     add(Call::Ordered, refused(Call::Ordered));
     add(Call::Ordered, after_the_run());
+    add(Call::Ordered, bad_before_the_run());
     runs
 }
 
@@ -38,7 +42,19 @@ fn refused(call: Call) -> Vec<(u64, Run)> {
         }
     }
     if listed(8) {
-        runs.extend(bad_readings(call).map(|run| (8, run)));
+        let run = with(call, &[]);
+        let spoiled = |matrix: Vec<f64>| Run {
+            matrix,
+            ..run.clone()
+        };
+        runs.extend(every_choice(&run.matrix).map(|matrix| (8, spoiled(matrix))));
+    }
+    for (number, faults) in NUMBERS {
+        let mut spoiled = faults.iter().map(|fault| with(call, &[*fault, BAD_END]));
+        if call.has(number) && listed(number) {
+            let left = |run: &Run| run.matrix.len() > GOOD;
+            runs.push((number, spoiled.find(left).expect("readings are left")));
+        }
     }
     let mut faults = PAIRED.to_vec();
     faults.retain(|&(number, _)| call.has(number));
@@ -115,6 +131,12 @@ const SHORT_LIST: Fault = |run| run.values.truncate(1);
 const OVER_LIMIT: Fault = |run| run.settings.limit = 100_001;
 const BELOW_ZERO: Fault = |run| run.settings.tolerance = -1.0;
 const BAD_READING: Fault = |run| run.matrix[3] = f64::INFINITY;
+/// How many readings are good where the others are bad: not only those of the first row and column.
+const GOOD: usize = 3;
+const BAD_END: Fault = |run| {
+    let others = run.matrix.iter_mut().skip(GOOD);
+    others.for_each(|reading| *reading = f64::NEG_INFINITY);
+};
 
 /// The faults of each number but 8, in the order in which the numbers count.
 const NUMBERS: [(u64, &[Fault]); 8] = [
@@ -239,25 +261,6 @@ const ALLOWED: [Fault; 8] = [
     |run| run.settings.floor = f64::MAX,
 ];
 
-/// A bad reading at each place, and another in the last.
-fn bad_readings(call: Call) -> impl Iterator<Item = Run> {
-    let bad = [
-        0x7FF0_0000_0000_0000,
-        0xFFF0_0000_0000_0000,
-        0x7FF8_0000_0000_0000,
-        0xFFF8_0000_0000_0001,
-        0x7FF0_0000_0000_0001,
-        0xFFFF_FFFF_FFFF_FFFF,
-    ];
-    bad.into_iter().enumerate().flat_map(move |(place, bits)| {
-        let mut run = with(call, &[]);
-        run.matrix[place] = f64::from_bits(bits);
-        let one = run.clone();
-        run.matrix[5] = f64::INFINITY;
-        [one, run]
-    })
-}
-
 /// Refused with U and V filled with the identity.
 fn from_the_identity() -> Vec<(u64, Run)> {
     let faults = [
@@ -272,6 +275,24 @@ fn from_the_identity() -> Vec<(u64, Run)> {
         (number, Run { start, ..run })
     };
     faults.map(run).into()
+}
+
+/// Refused by 8 in tables of one row, of one column and of the largest size: the last reading alone, and
+/// all but the first three.
+fn bad_in_long_tables() -> Vec<(u64, Run)> {
+    const LAST: Fault = |run| run.matrix[run.rows * run.cols - 1] = f64::NAN;
+    let mut runs = Vec::new();
+    for (rows, cols) in [(1, 48), (48, 1), (48, 48)] {
+        for fault in [LAST, BAD_END] {
+            let mut run = with(Call::Accumulating, &[]);
+            (run.rows, run.cols) = (rows, cols);
+            fitted(&mut run);
+            run.start = Start::Identity;
+            fault(&mut run);
+            runs.push((8, run));
+        }
+    }
+    runs
 }
 
 /// Tables of which the run is made, each with the number that the ordered call answers after it. No two
@@ -312,4 +333,16 @@ fn after_the_run() -> Vec<(u64, Run)> {
         (number, run)
     };
     tables.map(run).into()
+}
+
+/// The tables after whose run the ordered call answers 12 or 13, with a bad reading in the last place: 8
+/// comes before the run.
+fn bad_before_the_run() -> Vec<(u64, Run)> {
+    let mut runs = after_the_run();
+    runs.retain(|&(number, _)| number != 0);
+    for (number, run) in &mut runs {
+        *number = 8;
+        *run.matrix.last_mut().expect("a reading") = f64::NAN;
+    }
+    runs
 }

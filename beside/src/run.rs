@@ -1,6 +1,7 @@
 //! One call as an app could make it, fit or not, and the reply that it must get: refused by the rules'
 //! table, or else what the original does, for the ordered call with the values in order.
 
+use crate::readings::{Bad, bad};
 use crate::text::{hex, hexes};
 use crate::{Report, Settings, order, run};
 use std::fmt::Write;
@@ -111,8 +112,14 @@ impl Run {
         }
     }
 
-    /// The number and the place of the refusal that the rules ask for before the call's run.
-    pub fn refusal(&self, call: Call) -> Option<(u64, u64)> {
+    /// The report of the refusal that the rules ask for before the call's run.
+    pub fn refusal(&self, call: Call) -> Option<Report> {
+        let refused = |number: u64| {
+            Some(Report {
+                number,
+                ..Report::default()
+            })
+        };
         let Settings {
             limit,
             credit,
@@ -122,34 +129,40 @@ impl Run {
         } = self.settings;
         let (rows, cols) = (self.rows, self.cols);
         if rows == 0 || cols == 0 {
-            return Some((1, 0));
+            return refused(1);
         }
         if rows > 48 || cols > 48 {
-            return Some((2, 0));
+            return refused(2);
         }
         if self.matrix.len() != rows * cols {
-            return Some((3, 0));
+            return refused(3);
         }
         if let (true, Start::Given(u, v)) = (call.keeps(), &self.start) {
             if u.len() != rows * rows {
-                return Some((4, 0));
+                return refused(4);
             }
             if v.len() != cols * cols {
-                return Some((5, 0));
+                return refused(5);
             }
         }
         if call == Call::Ordered && self.values.len() != rows.min(cols) {
-            return Some((11, 0));
+            return refused(11);
         }
         if limit > 100_000 || credit > 1_000 {
-            return Some((6, 0));
+            return refused(6);
         }
         let bound = |value: f64| value.is_finite() && value >= 0.0;
         if !bound(tolerance) || !bound(absolute) || !floor.is_finite() || floor <= 0.0 {
-            return Some((7, 0));
+            return refused(7);
         }
-        let bad = self.matrix.iter().position(|value| !value.is_finite());
-        bad.map(|place| (8, place as u64))
+        let Bad { row, column, many } = bad(cols, &self.matrix)?;
+        Some(Report {
+            number: 8,
+            row,
+            column,
+            bad: many,
+            ..Report::default()
+        })
     }
 
     /// The lists as the call is lent them, with a report that says nothing.
@@ -194,14 +207,8 @@ impl Run {
 
     /// The reply of a call that is refused before its run: the lists as they are lent.
     fn refused(&self, call: Call) -> Option<Reply> {
-        let (number, place) = self.refusal(call)?;
-        let report = Report {
-            number,
-            place,
-            ..Report::default()
-        };
         Some(Reply {
-            report,
+            report: self.refusal(call)?,
             ..self.lent(call)
         })
     }

@@ -1,6 +1,7 @@
 //! The survey text and what `split` prints of it, written from its rules alone: lines are cut off
 //! one by one, and each reading is what the standard library makes of its words.
 
+use crate::readings::{Bad, bad};
 use crate::text::hex;
 use crate::{Settings, run};
 
@@ -68,8 +69,8 @@ fn row(line: &str, cols: usize) -> Option<Vec<f64>> {
 
 /// What is printed of a survey.
 fn survey(entry: &Entry, mut matrix: Vec<f64>) -> String {
-    if let Some(place) = matrix.iter().position(|value| !value.is_finite()) {
-        return format!("{} refused 8 {place}\n", entry.id);
+    if let Some(Bad { row, column, many }) = bad(entry.cols, &matrix) {
+        return format!("{} refused 8 {row} {column} {many}\n", entry.id);
     }
     let report = run(
         entry.rows,

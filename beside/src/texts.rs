@@ -3,14 +3,14 @@
 
 use crate::cases::{Draw, READINGS};
 use crate::kinds::{Sizes, drawn as drawn_run};
+use crate::readings::{every_choice, spoil};
 use crate::run::Run;
 use crate::survey::split;
-use crate::text::hexes;
 
 /// A survey as it is to be written: id, rows, columns, readings.
 type Survey = (usize, usize, usize, Vec<f64>);
 
-/// The surveys as a text.
+/// The surveys as a text, the NaNs with their own bits.
 fn written(surveys: &[Survey]) -> Vec<u8> {
     let mut text = format!("{}\n", surveys.len());
     for (id, rows, cols, _) in surveys {
@@ -18,7 +18,11 @@ fn written(surveys: &[Survey]) -> Vec<u8> {
     }
     for (_, _, cols, readings) in surveys {
         for row in readings.chunks(*cols) {
-            text += &hexes(row);
+            let words: Vec<String> = row
+                .iter()
+                .map(|x| format!("{:016X}", x.to_bits()))
+                .collect();
+            text += &words.join(" ");
             text.push('\n');
         }
     }
@@ -33,6 +37,11 @@ fn drawn(draw: &mut Draw, id: usize, rows: usize, cols: usize, kind: usize) -> S
 
 /// The example of the rules.
 const EXAMPLE: &str = "1\n7 2 1\n4008000000000000\n4010000000000000\n";
+
+/// A survey with two bad readings, the first in row 1 and column 0.
+const REFUSED: &str = "1\n40 2 3\n\
+3FF0000000000000 4000000000000000 4008000000000000\n\
+7FF0000000000000 4014000000000000 FFF8000000000001\n";
 
 /// Two surveys, a 2 x 3 and a 2 x 1: the text that is damaged.
 const BASE: &str = "2\n31 2 3\n7 2 1\n\
@@ -78,47 +87,25 @@ fn well_formed(texts: &mut Vec<Vec<u8>>) {
     }
 }
 
-/// Readings that are infinite or NaN, at each place of a 2 x 3 and in one survey of several.
+/// Readings that are infinite or NaN: in every choice of a 2 x 3's places, in large tables, and in one
+/// survey of several.
 fn bad_readings(texts: &mut Vec<Vec<u8>>) {
     let mut draw = Draw(0xBAD);
-    let bad = [
-        0x7FF0_0000_0000_0000,
-        0xFFF0_0000_0000_0000,
-        0x7FF8_0000_0000_0000,
-        0xFFF8_0000_0000_0001,
-        0x7FF0_0000_0000_0001,
-        0xFFFF_FFFF_FFFF_FFFF,
-    ];
-    let hex = |survey: &Survey, at: usize, bits: u64| {
-        let text = String::from_utf8(written(std::slice::from_ref(survey))).unwrap();
-        let whole = hexes(&survey.3[at..=at]);
-        let mut seen = 0;
-        let words: Vec<String> = text
-            .split_inclusive([' ', '\n'])
-            .map(|word| {
-                let ended = word.len() == 17;
-                seen += usize::from(ended);
-                if ended && seen == at + 1 && word.starts_with(&whole) {
-                    format!("{bits:016X}{}", &word[16..])
-                } else {
-                    word.to_string()
-                }
-            })
-            .collect();
-        words.concat().into_bytes()
-    };
-    for (number, bits) in bad.into_iter().enumerate() {
-        let survey = drawn(&mut draw, 40 + number, 2, 3, 0);
-        texts.push(hex(&survey, number, bits));
+    let (_, rows, cols, readings) = drawn(&mut draw, 40, 2, 3, 0);
+    for (id, readings) in (40..).zip(every_choice(&readings)) {
+        texts.push(written(&[(id, rows, cols, readings)]));
     }
-    let wide = drawn(&mut draw, 9, 12, 12, 2);
-    texts.push(hex(&wide, 143, bad[2]));
+    // The last of many, all of them, and as many as make the longest line.
+    for (id, size, good) in [(9, 12, 143), (9, 12, 0), (65535, 48, 10 * 48 + 10)] {
+        let (_, _, _, mut readings) = drawn(&mut draw, id, size, size, 2);
+        readings[good..].fill(f64::NAN);
+        texts.push(written(&[(id, size, size, readings)]));
+    }
     // The last finite patterns are no bad readings.
     texts.push(b"1\n1 1 2\n7FEFFFFFFFFFFFFF FFEFFFFFFFFFFFFF\n".to_vec());
-    // Two bad ones: the first counts. Refused surveys before, between and after accepted ones.
+    // Refused surveys before, between and after accepted ones.
     let good = "3FF0000000000000";
     let nan = "7FF8000000000000";
-    texts.push(format!("1\n8 1 3\n{good} {nan} 7FF0000000000000\n").into());
     for places in ["100", "010", "001", "111", "101"] {
         let mut text = "3\n8 1 1\n3 1 1\n5 1 1\n".to_string();
         for place in places.bytes() {
@@ -302,9 +289,10 @@ fn store(out: &mut Vec<u8>, mark: char, text: &[u8], answer: &[u8]) {
     out.extend(answer);
 }
 
-/// Texts with answers that are wrong on purpose, each a right one with one change: each byte of an answer, the last of a
-/// long one, an answer with a byte less or more at either end or with none, each byte of a text that counts, and the
-/// place where the text ends and the answer begins.
+/// Texts with answers that are wrong on purpose, each a right one with one change: each byte of an answer and of one that
+/// refuses, row and column exchanged, and both as one index; the last byte of a long one, an answer with a byte less or
+/// more at either end or with none, each byte of a text that counts, and the place where the text ends and the answer
+/// begins.
 fn wrong() -> Vec<(Vec<u8>, Vec<u8>)> {
     let text = EXAMPLE.as_bytes().to_vec();
     let answer = split(&text).into_bytes();
@@ -313,9 +301,18 @@ fn wrong() -> Vec<(Vec<u8>, Vec<u8>)> {
         bytes[place] ^= 1;
         bytes
     };
-    let mut rows: Vec<(Vec<u8>, Vec<u8>)> = (0..answer.len())
-        .map(|place| (text.clone(), changed(&answer, place)))
-        .collect();
+    let refused = split(REFUSED.as_bytes()).into_bytes();
+    let mut rows: Vec<(Vec<u8>, Vec<u8>)> = Vec::new();
+    for (text, answer) in [(EXAMPLE, &answer), (REFUSED, &refused)] {
+        rows.extend((0..answer.len()).map(|place| (text.into(), changed(answer, place))));
+    }
+    for other in [
+        "40 refused 8 0 1 2\n",
+        "40 refused 8 3 2\n",
+        "40 refused 8 3\n",
+    ] {
+        rows.push((REFUSED.into(), other.into()));
+    }
     let long = written(&[drawn(&mut Draw(0x1096), 300, 2, 48, 2)]);
     let end = split(&long).into_bytes();
     rows.push((long, changed(&end, end.len() - 1)));
@@ -376,7 +373,8 @@ pub fn summary() -> String {
     format!("{right} texts compared, 0 differ; {wrong} wrong on purpose, {wrong} found\n")
 }
 
-/// A well-formed text with surveys of every kind; mostly small ones.
+/// A well-formed text with surveys of every kind; mostly small ones. One in sixteen has bad readings, but
+/// for those that are drawn so.
 fn any_surveys(draw: &mut Draw) -> Vec<u8> {
     let many = if draw.below(3) == 0 {
         1 + draw.below(8)
@@ -393,7 +391,10 @@ fn any_surveys(draw: &mut Draw) -> Vec<u8> {
         let id = [9, 99, 999, 65535][draw.below(4) as usize];
         let id = 1 + draw.below(id) as usize;
         if surveys.iter().all(|other| other.0 != id) {
-            let run = fit(draw, sizes);
+            let mut run = fit(draw, sizes);
+            if draw.below(16) == 0 {
+                spoil(draw, run.cols, &mut run.matrix);
+            }
             surveys.push((id, run.rows, run.cols, run.matrix));
         }
     }
@@ -469,4 +470,19 @@ pub fn lot(seed: u64, first: u64, end: u64, most: usize) -> (Vec<u8>, u64) {
         }
     }
     (out, end - first)
+}
+
+/// Of the first texts of a seed how many surveys are refused by 8, and how many of these have more than
+/// one bad reading.
+pub fn met(seed: u64, many: u64) -> [u64; 2] {
+    let mut met = [0; 2];
+    for number in 0..many {
+        for line in split(&drawn_text(seed, number)).lines() {
+            if let [_, "refused", "8", _, _, bad] = line.split(' ').collect::<Vec<_>>()[..] {
+                met[0] += 1;
+                met[1] += u64::from(bad != "1");
+            }
+        }
+    }
+    met
 }

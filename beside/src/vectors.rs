@@ -233,9 +233,9 @@ pub fn entry(told: &mut Told, mut at: usize) -> Option<&mut f64> {
 }
 
 /// Runs with answers that are wrong on purpose in one place: each word of the report, its lowest and
-/// its highest bit; each entry of each list, likewise; every bit of one entry of each list; a NaN for
-/// a number and a number for a NaN. First of the plain and the accumulating call, then of the ordered
-/// one, which has not every bit.
+/// its highest bit; row and column of a bad reading exchanged; each entry of each list, its lowest and
+/// its highest bit; every bit of one entry of each list; a NaN for a number and a number for a NaN. First
+/// of the plain and the accumulating call, then of the ordered one, which has not every bit.
 fn replies_wrong(wrong: &mut Vec<(Run, Told)>) {
     let accepted = |call: Call, start: &Start| Run {
         rows: 2,
@@ -252,8 +252,15 @@ fn replies_wrong(wrong: &mut Vec<(Run, Told)>) {
         accepted(Call::Accumulating, &given),
         accepted(Call::Plain, &Start::Identity),
     ];
+    // Of the runs that are refused by 8 one whose bad reading has a row and a column that are unlike.
     let answering = |call: Call, number: u64| {
-        let such = |(of, told, _): &(Call, u64, Run)| (*of, *told) == (call, number);
+        let unlike = |run: &Run| {
+            run.refusal(call)
+                .is_some_and(|told| told.row != told.column)
+        };
+        let such = |(of, told, run): &(Call, u64, Run)| {
+            (*of, *told) == (call, number) && (number != 8 || unlike(run))
+        };
         let found = refusals::all().into_iter().find(such).expect("one").2;
         Run { call, ..found }
     };
@@ -269,6 +276,10 @@ fn replies_wrong(wrong: &mut Vec<(Run, Told)>) {
             add(run, &|told| told.first.flip(word, bit));
         }
     }
+    add(&refused[0], &|told| {
+        let report = &mut told.first.report;
+        (report.row, report.column) = (report.column, report.row);
+    });
     let flip = |told: &mut Told, at: usize, bit: usize| {
         let entry = entry(told, at).expect("an entry");
         *entry = f64::from_bits(entry.to_bits() ^ 1 << bit);
@@ -297,11 +308,11 @@ fn replies_wrong(wrong: &mut Vec<(Run, Told)>) {
     });
 
     let in_order = accepted(Call::Ordered, &given);
-    let stopped = answering(Call::Ordered, 12);
+    let [bad, short, stopped] = [8, 11, 12].map(|number| answering(Call::Ordered, number));
     fn ordered(told: &mut Told) -> &mut Reply {
         told.ordered.as_mut().expect("the ordered call's")
     }
-    for run in [&in_order, &answering(Call::Ordered, 11), &stopped] {
+    for run in [&in_order, &bad, &short, &stopped] {
         for (word, bit) in flips() {
             add(run, &|told| ordered(told).flip(word, bit));
         }

@@ -8,7 +8,9 @@ use beside::{Report, Settings, refusals};
 
 const SETTLED: Report = Report {
     number: 0,
-    place: 0,
+    row: 0,
+    column: 0,
+    bad: 0,
     word: Report::SETTLED,
     passes: 3,
     sweeps: 2,
@@ -137,21 +139,26 @@ fn the_order_of_the_refusals() {
         cols: 49,
         settings,
         call: Call::Ordered,
-        matrix: vec![f64::NAN],
+        matrix: vec![1.0, f64::NAN],
         start: Start::Given(vec![1.0], vec![1.0]),
         values: vec![1.0],
     };
     let repairs: [fn(&mut Run); 9] = [
         |run| run.rows = 3,
         |run| run.cols = 2,
-        |run| run.matrix.resize(6, 2.0),
+        |run| run.matrix.resize(6, f64::INFINITY),
         |run| run.start = Start::Given(vec![1.0; 9], vec![1.0]),
         |run| run.start = Start::Identity,
         |run| run.values.push(1.0),
         |run| run.settings.limit = 100,
         |run| run.settings.floor = 1e-21,
-        |run| run.matrix[0] = 1.0,
+        |run| run.matrix.fill(1.0),
     ];
+    // Bad readings are there from the start, and only 8 speaks of them.
+    let refused = |number: u64| match number {
+        8 => Report::from([8, 0, 1, 5, 0, 0, 0, 0, 0]),
+        _ => Report::from([number, 0, 0, 0, 0, 0, 0, 0, 0]),
+    };
     for (call, numbers) in [
         (Call::Ordered, [1, 2, 3, 4, 5, 11, 6, 7, 8]),
         (Call::Accumulating, [1, 2, 3, 4, 5, 6, 6, 7, 8]),
@@ -159,7 +166,7 @@ fn the_order_of_the_refusals() {
     ] {
         let mut run = faulty.clone();
         for (number, repair) in numbers.into_iter().zip(repairs) {
-            assert_eq!(run.refusal(call), Some((number, 0)), "{call:?}");
+            assert_eq!(run.refusal(call), Some(refused(number)), "{call:?}");
             repair(&mut run);
         }
         assert_eq!(run.refusal(call), None);
@@ -175,8 +182,8 @@ fn the_length_of_the_list() {
                 values: unwritten(length),
                 ..Run::from(case(rows, cols, &vec![1.0; rows * cols], Settings::DEFAULT))
             };
-            let refused = (length != rows.min(cols)).then_some((11, 0));
-            assert_eq!(run.refusal(Call::Ordered), refused);
+            let refused = run.refusal(Call::Ordered).map(|report| report.number);
+            assert_eq!(refused, (length != rows.min(cols)).then_some(11));
             assert_eq!(run.refusal(Call::Accumulating), None);
         }
     }

@@ -44,7 +44,7 @@ fn one_line_of_each_kind() {
         say(format!(
             "2\n5 1 1\n6 1 2\nFFF0000000000000\n{one} 7FF8000000000000\n"
         )),
-        "5 refused 8 0\n6 refused 8 1\n"
+        "5 refused 8 0 0 1\n6 refused 8 0 1 1\n"
     );
 }
 

@@ -37,7 +37,7 @@ fn the_words_of_a_run() {
     let head = [
         2, 2, 100, 50, tolerance, absolute, floor, 2, 0, 4, 4, 4, 2, 0,
     ];
-    let report = [0, 0, 1, 1, 0, 1, 1];
+    let report = [0, 0, 0, 0, 1, 1, 0, 1, 1];
     let mut right = [&head[..], &[two, 0, 0, one], &report].concat();
     right.extend([minus_two, 0, 0, one, minus_one, 0, 0, one, one, 0, 0, one]);
     // The first column of U is negated: it is the identity again, but for the sign of its zero.
@@ -61,7 +61,7 @@ fn the_words_of_a_refusal() {
         start: Start::Given(vec![], vec![1.0, 2.0]),
         values: vec![7.0; 3],
     };
-    let refused = [2, 0, 0, 0, 0, 0, 0];
+    let refused = [2, 0, 0, 0, 0, 0, 0, 0, 0];
     let (one, two) = (1f64.to_bits(), 2f64.to_bits());
     let all = words(&run, &told(&run), 0);
     assert_eq!(all[..2], [1 << 63, 2]);
@@ -74,7 +74,7 @@ fn the_words_of_a_refusal() {
     };
     let fewer = words(&kept, &told(&kept), 0);
     assert_eq!(fewer[7..14], [1, 1, 1, 0, 2, 0, 0]);
-    assert_eq!(fewer[14..], all[14..24]);
+    assert_eq!(fewer[14..], all[14..26]);
 }
 
 /// With 12 the ordered call has the accumulating one's words but for the number, and no lists.
@@ -86,9 +86,9 @@ fn the_words_of_a_run_that_stopped() {
     };
     let run = Run::from(cases::case(2, 2, &[2.0, 0.0, 0.0, 1.0], none));
     let all = words(&run, &told(&run), 0);
-    let stopped = [0, 0, 2, 0, 0, 0, 2];
-    assert_eq!(all[18..25], stopped);
-    assert_eq!(all[37..], [&[12], &stopped[1..]].concat());
+    let stopped = [0, 0, 0, 0, 2, 0, 0, 0, 2];
+    assert_eq!(all[18..27], stopped);
+    assert_eq!(all[39..], [&[12], &stopped[1..]].concat());
 }
 
 #[test]
@@ -199,22 +199,6 @@ fn refused_as_told() {
         // What the accumulating call refuses, the ordered one does.
         if call == Call::Accumulating && told != 0 {
             assert_eq!(run.reply(Call::Ordered).report.number, told, "{run:?}");
-        }
-    }
-}
-
-#[test]
-fn the_first_bad_reading_counts() {
-    let mut run = Run::from(cases::case(2, 2, &[1.0; 4], Settings::DEFAULT));
-    for place in (0..4).rev() {
-        run.matrix[place] = f64::NAN;
-        let refused = Report {
-            number: 8,
-            place: place as u64,
-            ..Report::default()
-        };
-        for call in [Call::Plain, Call::Accumulating, Call::Ordered] {
-            assert_eq!(run.reply(call).report, refused);
         }
     }
 }

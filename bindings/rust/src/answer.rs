@@ -33,8 +33,12 @@ macro_rules! answer {
 answer! {
     /// 0 accepted, 1 to 8 and 11 to 13 refused.
     number,
-    /// For number 8 the index of the first bad reading, else 0.
-    place,
+    /// For number 8 the station (row) of the first bad reading, else 0.
+    row,
+    /// For number 8 the pass (column) of the first bad reading, else 0.
+    column,
+    /// For number 8 how many bad readings the table has, else 0.
+    bad,
     /// [`Answer::SETTLED`] or [`Answer::STOPPED`]; 0 where nothing was run.
     word,
     /// Passes of the walk; each is a sweep or a drop.
