@@ -46,7 +46,7 @@ pub fn library(run: &Run, call: Call) -> Reply {
 
 /// What differs between the reply and the one that must be, if anything: the first word of the report
 /// by its name, or a list.
-fn differs(got: &Reply, must: &Reply) -> Option<String> {
+pub fn differs(got: &Reply, must: &Reply) -> Option<String> {
     let mut words = got.report.words().into_iter().zip(must.report.words());
     if let Some(at) = words.position(|(got, must)| got != must) {
         return Some(format!("the report's {}", Report::NAMES[at]));

@@ -3,7 +3,7 @@
 use beside::kinds::{Sizes, drawn};
 use beside::run::{Call, Run, Start, unwritten};
 use beside::{Report, Settings, refusals};
-use runs::{MEETINGS, check, library, shrunk};
+use runs::{MEETINGS, check, differs, library, shrunk};
 
 fn run(rows: usize, cols: usize, matrix: &[f64]) -> Run {
     Run {
@@ -62,11 +62,55 @@ fn a_refused_call_writes_nothing() {
     let reply = library(&unfit, Call::Ordered);
     let refused = Report {
         number: 8,
-        place: 1,
+        row: 0,
+        column: 1,
+        bad: 1,
         ..Report::default()
     };
     assert_eq!(reply.report, refused);
     assert!(check(&unfit, None).is_ok());
+}
+
+/// Another value of a word of the report is told by the word's name: of a refusal with bad readings, and
+/// of a run.
+#[test]
+fn each_word_of_the_report_is_seen() {
+    let (x, inf) = (f64::NAN, f64::INFINITY);
+    for run in [
+        run(2, 3, &[1.0, 2.0, 3.0, 4.0, x, inf]),
+        run(2, 3, &[1.0, 2.0, 3.0, 4.0, 5.0, 7.0]),
+    ] {
+        for call in [Call::Plain, Call::Accumulating, Call::Ordered] {
+            let (got, must) = (library(&run, call), run.reply(call));
+            assert_eq!(differs(&got, &must), None);
+            for (word, name) in Report::NAMES.into_iter().enumerate() {
+                let mut wrong = got.clone();
+                wrong.flip(word, 0);
+                let told = Some(format!("the report's {name}"));
+                assert_eq!(differs(&wrong, &must), told);
+            }
+        }
+    }
+}
+
+/// Tables with bad readings in any places: the library's own reports.
+#[test]
+fn bad_readings_are_told() {
+    for (matrix, told) in [
+        ([1.0, 2.0, 3.0, 4.0, 5.0, f64::NAN], [1, 2, 1]),
+        ([1.0, 2.0, f64::INFINITY, f64::NAN, 5.0, 6.0], [0, 2, 2]),
+        (
+            [1.0, 2.0, 3.0, f64::NEG_INFINITY, 5.0, -f64::NAN],
+            [1, 0, 2],
+        ),
+        ([f64::INFINITY; 6], [0, 0, 6]),
+    ] {
+        for call in [Call::Plain, Call::Accumulating, Call::Ordered] {
+            let report = library(&run(2, 3, &matrix), call).report;
+            assert_eq!([report.row, report.column, report.bad], told);
+            assert_eq!(report.number, 8);
+        }
+    }
 }
 
 /// What is right cannot be made simpler and wrong: the run comes back as it is.

@@ -5,6 +5,8 @@
 
 use beside::Report;
 use beside::kinds::{Sizes, TABLES, drawn};
+use beside::readings::{self, COUNTS};
+use beside::run::Run;
 use runs::lots::{self, all, ended, met, number};
 use runs::{MEETINGS, Seen, check, shrunk};
 use std::process::ExitCode;
@@ -15,6 +17,10 @@ struct Counts {
     runs: u64,
     calls: u64,
     numbers: [u64; 9],
+    /// Of the runs that are refused by 8.
+    bad: [u64; COUNTS.len()],
+    /// Refused by another number, with bad readings as well.
+    before: u64,
     words: [u64; 3],
     tables: [[u64; 4]; TABLES.len()],
     shapes: Vec<u64>,
@@ -36,6 +42,8 @@ impl lots::Counts for Counts {
             runs: 0,
             calls: 0,
             numbers: [0; 9],
+            bad: [0; COUNTS.len()],
+            before: 0,
             words: [0; 3],
             tables: [[0; 4]; TABLES.len()],
             shapes: vec![0; 48 * 48],
@@ -56,6 +64,8 @@ impl lots::Counts for Counts {
         self.calls += other.calls;
         let add = |to: &mut [u64], from: &[u64]| to.iter_mut().zip(from).for_each(|(a, b)| *a += b);
         add(&mut self.numbers, &other.numbers);
+        add(&mut self.bad, &other.bad);
+        self.before += other.before;
         add(&mut self.words, &other.words);
         add(&mut self.shapes, &other.shapes);
         add(&mut self.meetings, &other.meetings);
@@ -74,7 +84,8 @@ impl lots::Counts for Counts {
 }
 
 impl Counts {
-    fn add(&mut self, seen: &Seen, rows: usize, cols: usize, table: usize) {
+    fn add(&mut self, seen: &Seen, run: &Run, table: usize) {
+        let &Run { rows, cols, .. } = run;
         let Report {
             number,
             word,
@@ -90,6 +101,13 @@ impl Counts {
         self.tables[table][place] += 1;
         if number == 0 {
             self.shapes[(rows - 1) * 48 + cols - 1] += 1;
+        } else if number == 8 {
+            let seen = readings::Seen::of(rows, cols, &run.matrix);
+            for (many, (_, is)) in self.bad.iter_mut().zip(COUNTS) {
+                *many += u64::from(is(&seen));
+            }
+        } else {
+            self.before += u64::from(run.matrix.iter().any(|x| !x.is_finite()));
         }
         self.greater += u64::from(seen.greater);
         self.reached += u64::from(seen.reached);
@@ -119,6 +137,13 @@ impl Counts {
         for number in 1..9 {
             println!("refused {number}: {}", self.numbers[number]);
         }
+        for (many, (name, _)) in self.bad.iter().zip(COUNTS) {
+            println!("  {name}: {}", met(*many));
+        }
+        println!(
+            "refused 1 to 7, with bad readings as well: {}",
+            met(self.before)
+        );
         println!(
             "passes {} in all, {} of them drops, {} the most in a run",
             self.passes, self.drops, self.most
@@ -162,7 +187,7 @@ fn one(seed: u64, number: u64, counts: &mut Counts) -> Result<(), String> {
     let limit = greater(seed, number);
     match check(&run, limit) {
         Ok(seen) => {
-            counts.add(&seen, run.rows, run.cols, table);
+            counts.add(&seen, &run, table);
             Ok(())
         }
         Err(wrong) => {
