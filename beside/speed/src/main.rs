@@ -1,10 +1,12 @@
 //! speed [REPEATS]: times the original, the proved library, and the same library with the machine's
 //! own root, in one process on the same tables, by turns; prints medians and ratios as a table. Then
-//! the same of the library's accumulating call and its ordered one: what the ordering costs.
+//! the same of the library's accumulating call and its ordered one: what the ordering costs; and of a
+//! plain call that is refused for its readings, whichever of them are bad.
 
 use beside::Settings;
 use merotunki::raw::{self, Answer};
 use std::hint::black_box;
+use std::mem::swap;
 use std::time::Instant;
 
 type Plain = unsafe extern "C" fn(
@@ -173,16 +175,20 @@ fn library(full: bool, plain: Plain, accumulating: Full) -> impl FnMut(&mut Lent
     }
 }
 
-/// The library's ordered call.
-fn in_order(lent: &mut Lent) {
+/// The default settings, as the library's crate takes them.
+fn choice() -> raw::Choice {
     let s = Settings::DEFAULT;
-    let choice = raw::Choice {
+    raw::Choice {
         limit: s.limit as u64,
         credit: s.credit as u64,
         tolerance: s.tolerance,
         absolute: s.absolute,
         floor: s.floor,
-    };
+    }
+}
+
+/// The library's ordered call.
+fn in_order(lent: &mut Lent) {
     let factors = (&mut lent.u[..], &mut lent.v[..]);
     let (rows, cols) = (lent.rows, lent.cols);
     let answer = raw::ordered_svd(
@@ -191,7 +197,7 @@ fn in_order(lent: &mut Lent) {
         &mut lent.values,
         rows,
         cols,
-        choice,
+        choice(),
     );
     assert_eq!(answer.number, 0, "a table that is not put in order");
     black_box(answer);
@@ -214,6 +220,65 @@ fn ordering(rows: usize, cols: usize, repeats: usize) {
     println!("\n| table | accumulating, us | ordered, us | the ordering, of the accumulating |");
     println!("|---|---|---|---|");
     println!("| {rows} x {cols} | {kept:.2} | {ordered:.2} | {share:.1} % |");
+}
+
+/// Which readings of a table are bad, by the place, the last place and a number from -2 to 8.
+type Which = fn(usize, usize, f64) -> bool;
+
+/// Prints what a plain call takes that is refused for its readings, and beside it the copying of a table.
+/// Such a call writes nothing, so it is made of the same tables again and again.
+fn refusing(rows: usize, cols: usize, repeats: usize) {
+    let kinds: [(&str, Which); 4] = [
+        ("one bad reading, the first", |at, _, _| at == 0),
+        ("one bad reading, the last", |at, last, _| at == last),
+        ("every second one or so, drawn", |_, _, drawn| drawn < 3.0),
+        ("all", |_, _, _| true),
+    ];
+    let last = rows * cols - 1;
+    let lent = &mut Lent::new(rows, cols);
+    let mut spoiled = kinds.map(|(_, which)| {
+        let mut tables = lent.tables.clone();
+        for (number, readings) in (0..).zip(&mut tables) {
+            let drawn = table(rows, cols, 8 + number);
+            let bad: Vec<usize> = (0..=last)
+                .filter(|&at| which(at, last, drawn[at]))
+                .collect();
+            bad.iter().for_each(|&at| readings[at] = f64::NAN);
+            let answer = raw::svd(readings, rows, cols, choice());
+            assert_eq!((answer.number, answer.bad), (8, bad.len() as u64));
+        }
+        tables
+    });
+    let mut timed = |tables: &mut Vec<Vec<f64>>, call: &mut dyn FnMut(&mut Lent)| {
+        let turns = 50;
+        let start = Instant::now();
+        for _ in 0..turns {
+            for table in tables.iter_mut() {
+                swap(&mut lent.matrix, table);
+                call(lent);
+                swap(&mut lent.matrix, table);
+            }
+        }
+        start.elapsed().as_secs_f64() / (turns * tables.len()) as f64
+    };
+    let mut copy = vec![0.0; rows * cols];
+    let mut copying = |lent: &mut Lent| {
+        copy.copy_from_slice(black_box(&lent.matrix));
+        black_box(&copy);
+    };
+    let mut plain = library(false, raw::merotunki_svd, raw::merotunki_full_svd);
+    let mut times = vec![Vec::new(); 1 + kinds.len()];
+    for _ in 0..repeats {
+        times[0].push(timed(&mut spoiled[0], &mut copying));
+        for (times, tables) in times[1..].iter_mut().zip(&mut spoiled) {
+            times.push(timed(tables, &mut plain));
+        }
+    }
+    println!("\n| {rows} x {cols} table | us |\n|---|---|");
+    let names = ["copied"].into_iter().chain(kinds.map(|(name, _)| name));
+    for (name, times) in names.zip(times) {
+        println!("| {name} | {:.2} |", 1e6 * median(times));
+    }
 }
 
 /// The roots of one call, on the mean over the tables.
@@ -287,4 +352,5 @@ fn main() {
         }
     }
     ordering(48, 48, repeats);
+    refusing(48, 48, repeats);
 }
