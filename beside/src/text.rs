@@ -39,6 +39,15 @@ pub fn hexes(values: &[f64]) -> String {
         .join(" ")
 }
 
+/// The same with the bits that each NaN has.
+pub fn patterns(values: &[f64]) -> String {
+    values
+        .iter()
+        .map(|value| format!("{:016X}", value.to_bits()))
+        .collect::<Vec<_>>()
+        .join(" ")
+}
+
 fn float(digits: &str) -> Result<f64, String> {
     let legal = |byte: u8| byte.is_ascii_digit() || (b'A'..=b'F').contains(&byte);
     if digits.len() != 16 || !digits.bytes().all(legal) {

@@ -6,11 +6,12 @@ use crate::kinds::{Sizes, drawn as drawn_run};
 use crate::readings::{every_choice, spoil};
 use crate::run::Run;
 use crate::survey::split;
+use crate::text::patterns;
 
 /// A survey as it is to be written: id, rows, columns, readings.
 type Survey = (usize, usize, usize, Vec<f64>);
 
-/// The surveys as a text, the NaNs with their own bits.
+/// The surveys as a text.
 fn written(surveys: &[Survey]) -> Vec<u8> {
     let mut text = format!("{}\n", surveys.len());
     for (id, rows, cols, _) in surveys {
@@ -18,11 +19,7 @@ fn written(surveys: &[Survey]) -> Vec<u8> {
     }
     for (_, _, cols, readings) in surveys {
         for row in readings.chunks(*cols) {
-            let words: Vec<String> = row
-                .iter()
-                .map(|x| format!("{:016X}", x.to_bits()))
-                .collect();
-            text += &words.join(" ");
+            text += &patterns(row);
             text.push('\n');
         }
     }

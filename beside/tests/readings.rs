@@ -5,6 +5,7 @@ use beside::kinds::{Sizes, drawn};
 use beside::readings::{Bad, COUNTS, Seen, bad};
 use beside::run::{Call, Run};
 use beside::survey::split;
+use beside::text::patterns;
 use beside::texts::{drawn_text, met};
 use beside::{Report, Settings, cases, refusals, vectors};
 
@@ -40,11 +41,7 @@ fn refused(row: usize, column: usize, bad: usize) -> Report {
 fn printed(run: &Run) -> String {
     let mut text = format!("1\n12 {} {}\n", run.rows, run.cols);
     for row in run.matrix.chunks(run.cols) {
-        let words: Vec<String> = row
-            .iter()
-            .map(|x| format!("{:016X}", x.to_bits()))
-            .collect();
-        text += &format!("{}\n", words.join(" "));
+        text += &format!("{}\n", patterns(row));
     }
     split(text.as_bytes())
 }

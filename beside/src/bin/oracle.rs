@@ -1,7 +1,10 @@
 //! Answers the cases of standard input, a line each; `oracle changes` prints instead every line in
-//! which what was built differs from the original.
+//! which what was built differs from the original, and `oracle refused` the fixed small tables with bad
+//! readings, each with what is told of them.
 
-use beside::text::Case;
+use beside::refusals;
+use beside::run::{Call, Run};
+use beside::text::{Case, patterns};
 use std::io::{self, BufRead, Write};
 use std::process::ExitCode;
 
@@ -14,7 +17,11 @@ fn main() -> ExitCode {
             print!("{}", beside::CHANGES);
             Ok(())
         }
-        _ => Err("oracle < cases, or oracle changes".to_string()),
+        ["refused"] => {
+            refused();
+            Ok(())
+        }
+        _ => Err("oracle < cases, oracle changes, or oracle refused".to_string()),
     };
     match done {
         Ok(()) => ExitCode::SUCCESS,
@@ -35,4 +42,17 @@ fn answers() -> Result<(), String> {
         writeln!(out, "{answer}").map_err(|error| error.to_string())?;
     }
     out.flush().map_err(|error| error.to_string())
+}
+
+/// Rows, columns, the readings, and then number, row, column and how many.
+fn refused() {
+    let such = |(call, number, _): &(Call, u64, Run)| (*call, *number) == (Call::Plain, 8);
+    for (call, _, run) in refusals::all().into_iter().filter(such) {
+        let [number, row, column, bad, ..] = run.reply(call).report.words();
+        let readings = patterns(&run.matrix);
+        println!(
+            "{} {} | {readings} | {number} {row} {column} {bad}",
+            run.rows, run.cols
+        );
+    }
 }
