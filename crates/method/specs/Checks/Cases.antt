@@ -4,7 +4,7 @@ use mathlib.Core.Path.{_≡_, refl}
 use mathlib.Core.Bool.{false}
 use mathlib.Core.List.{List, [], _∷_}
 use Prim.Native.Nat.{ℕ}
-use lib.Ieee.{binary64, ofBits, lt}
+use lib.Ieee.{ofBits, lt}
 use Rattle.method.specs.Repeated.{go, repeated}
 use Rattle.method.specs.Work.{work}
 use Rattle.method.specs.Checks.{Refusal, counted, looked, badReadings, firstOf, refusalOf}

@@ -58,6 +58,21 @@ first-join (c ∷ xs) ys e = go (c .fails) refl (first-join xs ys (n .1))
         rw (first-hit c (xs ++ ys) t, h, ne-eqb (c .number) 0 (λ z. omega (arith, n .0)), orElse) (sym h)
     go false t ih = rw (first-miss c (xs ++ ys) t, first-miss c xs t) ih
 
+-- where no number is given, no place is
+pub first-clear : (cs : List Check) → numbered cs ≡ true → firstOf cs .number ≡ 0 → firstOf cs ≡ notRefused
+unfolding firstOf
+first-clear [] e z = refl
+first-clear (c ∷ cs) e z = go (c .fails) refl (first-clear cs (n .1))
+  where
+    n : (0 < c .number) × (numbered cs ≡ true)
+    n = both (less 0 (c .number)) (holds (numbered cs)) .0 e
+
+    go :
+        (b : Bool) → c .fails ≡ b → (firstOf cs .number ≡ 0 → firstOf cs ≡ notRefused) →
+        firstOf (c ∷ cs) ≡ notRefused
+    go true t ih = absurd (omega (arith, n .0, rw (first-hit c cs t) at z))
+    go false t ih = first-miss c cs t ∙ ih (rw (first-miss c cs t) at z)
+
 module _ (xs ys : List Check) (n : numbered xs ≡ true) {r : Refusal} (e : r ≡ firstOf xs) where
   -- so the one's refusal is the refusal, where it has one,
   pub first-here : ¬ (r .number ≡ 0) → r ≡ firstOf (xs ++ ys)

@@ -1,6 +1,6 @@
 -- The table of rule 2.1 as theorems: what each number means, that the answer is the first of the list that applies and
 -- 0 where none does, the place that 8 carries, and what an acceptance tells. Assumes nothing.
-use mathlib.Core.Path.{_≡_, refl}
+use mathlib.Core.Path.{_≡_, refl, ap}
 use mathlib.Core.Logic.{_↔_, _⊎_, inl, inr}
 use mathlib.Core.Bool.{Bool, true, false}
 use mathlib.Core.List.{List, [], _∷_, _++_}
@@ -205,6 +205,13 @@ module _ (kept : Bool) (rows cols : ℕ) (s : Settings) (w : Work) where
   pub record TruePlace (r : Refusal) : Type 0 where
     pub eight : r .number ≡ 8 → FirstBad cols rows cols (w .matrix) (r .place)
     pub other : ¬ (r .number ≡ 8) → r .place ≡ nowhere
+
+  -- so none is counted exactly when the number is not 8
+  pub none-counted : {r : Refusal} → TruePlace r → (r .place .bad ≡ 0) ↔ (¬ (r .number ≡ 8))
+  none-counted t = (
+    λ z e. absurd (omega (arith, t .eight e .some, z)),
+    λ h. ap (λ (p : Place). p .bad) (t .other h),
+  )
 
   reading-place : TruePlace (firstOf (readingChecks rows cols (w .matrix)))
   reading-place = go (ltb 0 (found .bad)) refl

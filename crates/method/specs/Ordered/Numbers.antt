@@ -26,7 +26,7 @@ use Rattle.method.specs.Checks.Table.{size-tests, length-tests, setting-
 use Rattle.method.specs.Checks.Table.{TruePlace, true-place, Fit, fit}
 use Rattle.method.specs.Report.{Word, none, settled, stopped, isSettled, wordNumber}
 use Rattle.method.specs.Outcome.{Outcome, card, accepted}
-use Rattle.method.specs.Outcome.Refused.{accepted-number}
+use Rattle.method.specs.Outcome.Refused.{accepted-refusal, accepted-number}
 use Rattle.method.specs.Order.{diagonal}
 use Rattle.method.specs.Order.Sizes.{Finite}
 use Rattle.method.specs.Ordered.{lentChecks, orderedChecks, orderedRefusal, allFinite, runChecks}
@@ -283,10 +283,6 @@ module _ (rows cols : ℕ) (s : Settings) (w : Work) (l : List Float) where
     pub ordered-found : 12 ≤ answers → ¬ (foundAfter rows cols ran l .number ≡ 0)
     ordered-found high e = omega (arith, high, ran-number (ordered-after high), e)
 
-    accepted-refusal : ran .report .refusal ≡ notRefused
-    unfolding accepted
-    accepted-refusal = refl
-
     -- the place of the answer
     pub answer-place : TruePlace true rows cols s w (orderedOutcome f rows cols s w l .run .report .refusal)
     answer-place =
@@ -303,7 +299,7 @@ module _ (rows cols : ℕ) (s : Settings) (w : Work) (l : List Float) where
             rw (
               ran-on rows cols s w l f (eqb-true _ 0 t),
               put-in-order rows cols ran l (eqb-true _ 0 t′),
-              accepted-refusal,
+              accepted-refusal f true rows cols s w,
             )
             none-placed
         go true t false t′ =

@@ -1,6 +1,6 @@
 -- `reading_refusal` meets its contract: it refuses where a bad reading was counted. Assumes nothing.
 use borrow.Author.Needs.{needs}
-use mathlib.Core.Path.{_≡_, sym, ap, _∙_}
+use mathlib.Core.Path.{sym, ap, _∙_}
 use borrow.Author.Tests.{lt-ltb, le-ltb}
 use Rattle.method.specs.Checks.{Place, refusal}
 use Rattle.method.specs.Checks.First.{first-hit, first-miss, first-none}

@@ -1,7 +1,7 @@
 -- `Refusal::by` meets its contract: the place is nowhere. Assumes nothing.
 use borrow.Author.Needs.{needs}
 use mathlib.Core.Path.{ap}
-use Rattle.method.specs.Checks.{Place, refusal}
+use Rattle.method.specs.Checks.{refusal}
 use Rattle.checks.proofs.refusal.Refusal.by.Statement.{statement}
 use Rattle.checks.proofs.refusal.Refusal.by.Tie as tie
 
