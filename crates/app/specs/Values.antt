@@ -15,7 +15,9 @@ abbrev pub answerOf : Report.Report → Answer
 answerOf r =
     record {
       number = r .refusal .number;
-      place = r .refusal .place;
+      row = r .refusal .place .row;
+      column = r .refusal .place .column;
+      bad = r .refusal .place .bad;
       word = Report.wordNumber (r .word);
       passes = r .tally .passes;
       sweeps = r .tally .sweeps;
@@ -58,4 +60,4 @@ ofChoice c = chosen (c .limit) (c .credit) (c .tolerance) (c .absolute) (c .floo
 
 -- which layout of the structs that cross the border this is: it rises by one whenever one of them changes
 abbrev pub layout : ℕ
-layout = 1
+layout = 2

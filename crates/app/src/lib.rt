@@ -25,12 +25,15 @@ ghost use Rattle.app.specs.Values.{answerOf, answered, told, listed, tol
 ghost use Rattle.app.specs.Values.{chosen, ofChoice, layout};
 ghost use Rattle.app.specs.Row.{partOf};
 
-// What a call answers. The word is 0 in a refusal before the run, 1 where the table settled and 2 where the walk
-// stopped at its limit.
+// What a call answers. With number 8 the row and the column are those of the first reading that is
+// infinite or NaN, and `bad` is how many there are; with any other number the three are 0. The word is 0 in
+// a refusal before the run, 1 where the table settled and 2 where the walk stopped at its limit.
 #[repr(C)]
 pub struct Answer {
     pub number: u64,
-    pub place: u64,
+    pub row: u64,
+    pub column: u64,
+    pub bad: u64,
     pub word: u64,
     pub passes: u64,
     pub sweeps: u64,
@@ -63,7 +66,9 @@ fn tell(report: Report) -> Answer
     let code = word.number();
     Answer {
         number: report.refusal.number as u64,
-        place: report.refusal.place as u64,
+        row: report.refusal.place.row as u64,
+        column: report.refusal.place.column as u64,
+        bad: report.refusal.place.bad as u64,
         word: code,
         passes: report.tally.passes as u64,
         sweeps: report.tally.sweeps as u64,
@@ -221,5 +226,5 @@ pub extern "C" fn merotunki_defaults() -> Choice
 pub extern "C" fn merotunki_layout() -> u64
     ensures { λ r. ⌜ r ≡ layout ⌝ }
 {
-    1
+    2
 }

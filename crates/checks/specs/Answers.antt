@@ -1,5 +1,5 @@
 -- Any two answers that the promise of a public function allows are equal: `first_refusal`, `lent_refusal`,
--- `smaller_size`, `Settings::new`. Assumes nothing.
+-- `Refusal::by`, `Place::nowhere`, `smaller_size`, `Settings::new`. Assumes nothing.
 use mathlib.Core.Path.{_≡_, sym, ap, _∙_}
 use mathlib.Core.Bool.{Bool}
 use mathlib.Core.List.{List}
@@ -9,16 +9,20 @@ use Rattle.method.specs.Work.{Work}
 use Rattle.method.specs.Defaults.{defaults}
 use Rattle.method.specs.Settings as Method
 use Rattle.method.specs.Checks as Checks
-use Rattle.method.specs.Checks.{firstOf, refusalOf}
+use Rattle.method.specs.Checks.{nowhere, refusal, firstOf, refusalOf}
 use Rattle.method.specs.Outcome.{card}
 use Rattle.method.specs.Ordered.{lentChecks}
 use Rattle.checks.specs.declared.settings.Settings.{Settings}
+use Rattle.checks.specs.declared.place.Place.{Place}
 use Rattle.checks.specs.declared.refusal.Refusal.{Refusal}
-use Rattle.checks.specs.Values.{settingsOf, refusalIn}
+use Rattle.checks.specs.Values.{settingsOf, placeIn, refusalIn}
 
--- a refusal is told by the method's refusal, and settings by the method's settings
-abbrev fromRefusal : Checks.Refusal → Refusal
-fromRefusal r = record { number = r .number; place = r .place }
+-- a place is told by the method's place, a refusal by the method's refusal, and settings by the method's settings
+abbrev pub fromPlace : Checks.Place → Place
+fromPlace p = record { row = p .row; column = p .column; bad = p .bad }
+
+abbrev pub fromRefusal : Checks.Refusal → Refusal
+fromRefusal r = record { number = r .number; place = fromPlace (r .place) }
 
 abbrev fromSettings : Method.Settings → Settings
 fromSettings s =
@@ -29,6 +33,15 @@ fromSettings s =
       absolute = s .absolute;
       floor = s .floor;
     }
+
+-- `Place::nowhere`
+pub nowhere-one : (p p′ : Place) → placeIn p ≡ nowhere → placeIn p′ ≡ nowhere → p ≡ p′
+nowhere-one p p′ e e′ = ap fromPlace (e ∙ sym e′)
+
+-- `Refusal::by`
+pub refusal-by-one :
+    (n : ℕ) (r r′ : Refusal) → refusalIn r ≡ refusal n nowhere → refusalIn r′ ≡ refusal n nowhere → r ≡ r′
+refusal-by-one n r r′ e e′ = ap fromRefusal (e ∙ sym e′)
 
 -- `first_refusal`: number and place
 pub refusal-one :

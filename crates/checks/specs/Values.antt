@@ -2,6 +2,7 @@
 use Rattle.method.specs.Settings as Method
 use Rattle.method.specs.Checks as Checks
 use Rattle.checks.specs.declared.settings.Settings.{Settings}
+use Rattle.checks.specs.declared.place.Place.{Place}
 use Rattle.checks.specs.declared.refusal.Refusal.{Refusal}
 
 -- the settings
@@ -15,6 +16,9 @@ settingsOf s =
       floor = s .floor;
     }
 
--- a refusal
+-- a place, and a refusal
+abbrev pub placeIn : Place → Checks.Place
+placeIn p = Checks.placeOf (p .row) (p .column) (p .bad)
+
 abbrev pub refusalIn : Refusal → Checks.Refusal
-refusalIn r = Checks.refusal (r .number) (r .place)
+refusalIn r = Checks.refusal (r .number) (placeIn (r .place))

@@ -5,13 +5,14 @@ ghost use mathlib.Core.Bool.{true, not, _&&_, _||_};
 ghost use lib.Dec.{eqb, ltb};
 ghost use Rattle.method.specs.Work.{work};
 ghost use Rattle.method.specs.Settings.{mostSize, mostLimit, mostCredit};
-ghost use Rattle.method.specs.Checks.{boundFit, floorFit, firstOf, refusal, refusalOf};
+ghost use Rattle.method.specs.Checks.{boundFit, floorFit, firstOf, nowhere, refusal, refusalOf};
 ghost use Rattle.method.specs.Checks.{sizeChecks, lengthChecks, tableChecks, settingChecks, readingChecks};
 ghost use Rattle.method.specs.Ordered.{listChecks, lentChecks};
 ghost use Prim.Native.Nat.{_*_, _≤_};
 ghost use lib.ListN.{length};
 ghost use Rattle.checks.specs.Values.{settingsOf, refusalIn};
-use crate::search::first_bad;
+use crate::place::Place;
+use crate::search::bad_readings;
 use crate::settings::Settings;
 use crate::sizes::smaller_size;
 use float::is_finite;
@@ -19,18 +20,21 @@ use float::is_finite;
 // The most rows and the most columns of a table: `mostSize` of method.
 const MOST_SIZE: usize = 48;
 
-// The number of a refusal and its place; both 0 where there is none.
+// The number of a refusal, 0 where there is none; and the place that 8 carries, zeros with any other.
 pub struct Refusal {
     pub number: usize,
-    pub place: usize,
+    pub place: Place,
 }
 
-fn refuse(number: usize, place: usize) -> Refusal
-    ensures { λ r. ⌜ refusalIn r ≡ refusal number place ⌝ }
-{
-    Refusal {
-        number: number,
-        place: place,
+impl Refusal {
+    // The refusal by a number that carries no place; by 0 there is none.
+    pub fn by(number: usize) -> Refusal
+        ensures { λ r. ⌜ refusalIn r ≡ refusal number nowhere ⌝ }
+    {
+        Refusal {
+            number: number,
+            place: Place::nowhere(),
+        }
     }
 }
 
@@ -90,12 +94,12 @@ fn size_refusal(rows: usize, cols: usize) -> Refusal
     ensures { λ r. ⌜ refusalIn r ≡ firstOf (sizeChecks rows cols) ⌝ }
 {
     if no_size(rows, cols) {
-        return refuse(1, 0);
+        return Refusal::by(1);
     }
     if too_large(rows, cols) {
-        return refuse(2, 0);
+        return Refusal::by(2);
     }
-    refuse(0, 0)
+    Refusal::by(0)
 }
 
 // The plain call keeps no factors, and has no 4 and 5.
@@ -105,38 +109,41 @@ fn length_refusal(b: &[f64], u: &[f64], v: &[f64], kept: bool, rows: usize, cols
         ≡ firstOf (lengthChecks kept rows cols (work (now (b .entry)) (now (u .entry)) (now (v .entry)))) ⌝ }
 {
     if wrong_length(true, b.len(), rows * cols) {
-        return refuse(3, 0);
+        return Refusal::by(3);
     }
     if wrong_length(kept, u.len(), rows * rows) {
-        return refuse(4, 0);
+        return Refusal::by(4);
     }
     if wrong_length(kept, v.len(), cols * cols) {
-        return refuse(5, 0);
+        return Refusal::by(5);
     }
-    refuse(0, 0)
+    Refusal::by(0)
 }
 
 fn setting_refusal(s: Settings) -> Refusal
     ensures { λ r. ⌜ refusalIn r ≡ firstOf (settingChecks (settingsOf s)) ⌝ }
 {
     if over_limit(s) {
-        return refuse(6, 0);
+        return Refusal::by(6);
     }
     if bounds_unfit(s) {
-        return refuse(7, 0);
+        return Refusal::by(7);
     }
-    refuse(0, 0)
+    Refusal::by(0)
 }
 
 fn reading_refusal(b: &[f64], rows: usize, cols: usize) -> Refusal
     requires { ⌜ (length (now b) ≡ rows * cols) × (rows ≤ mostSize) × (cols ≤ mostSize) ⌝ }
-    ensures { λ r. ⌜ refusalIn r ≡ firstOf (readingChecks (now (b .entry))) ⌝ }
+    ensures { λ r. ⌜ refusalIn r ≡ firstOf (readingChecks rows cols (now (b .entry))) ⌝ }
 {
-    let at = first_bad(b, rows, cols);
-    if at < b.len() {
-        return refuse(8, at);
+    let place = bad_readings(b, rows, cols);
+    if place.bad > 0 {
+        return Refusal {
+            number: 8,
+            place: place,
+        };
     }
-    refuse(0, 0)
+    Refusal::by(0)
 }
 
 // Of the sizes, and then of the lengths.
@@ -181,9 +188,9 @@ fn list_refusal(list: &[f64], rows: usize, cols: usize) -> Refusal
 {
     let whole = smaller_size(rows, cols);
     if wrong_length(true, list.len(), whole) {
-        return refuse(11, 0);
+        return Refusal::by(11);
     }
-    refuse(0, 0)
+    Refusal::by(0)
 }
 
 // The first refusal that applies to what the ordered call is lent: of the sizes, of the lengths, of

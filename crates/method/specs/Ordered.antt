@@ -41,7 +41,7 @@ lentChecks rows cols w l = tableChecks true rows cols w ++ listChecks rows cols 
 
 -- and then what the accumulating call checks besides
 abbrev pub orderedChecks : ℕ → ℕ → Settings → Work → List Float → List Check
-orderedChecks rows cols s w l = lentChecks rows cols w l ++ settingChecks s ++ readingChecks (w .matrix)
+orderedChecks rows cols s w l = lentChecks rows cols w l ++ settingChecks s ++ readingChecks rows cols (w .matrix)
 
 abbrev pub orderedRefusal : ℕ → ℕ → Settings → Work → List Float → Refusal
 orderedRefusal rows cols s w l = firstOf (orderedChecks rows cols s w l)

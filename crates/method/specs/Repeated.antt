@@ -68,6 +68,16 @@ pub repeated-suc :
     {S : Type 0} (step : ℕ → S → S) (k : ℕ) (s : S) → repeated 0 (suc k) step s ≡ step k (repeated 0 k step s)
 repeated-suc step k s = ap (λ (n : ℕ). repeated 0 n step s) (sym (add-one k)) ∙ repeated-next step k s
 
+-- what turn k takes from k to k + 1, the loop takes from 0 to its end
+pub repeated-along :
+    {S : Type 0} (P : ℕ → S → Type 0) (step : ℕ → S → S) (hi : ℕ) →
+    ((k : ℕ) (s : S) → k < hi → P k s → P (k + 1) (step k s)) → (s : S) → P 0 s → P hi (repeated 0 hi step s)
+repeated-along P step zero turn s p = rw (← repeated-none 0 step s) p
+repeated-along P step (suc k) turn s p =
+    let ih = repeated-along P step k (λ i t h. turn i t (omega arith)) s p in
+    let next = turn k (repeated 0 k step s) (omega arith) ih in
+    rw (repeated-suc step k s, ← add-one k) next
+
 -- steps that do the same do the same together
 pub repeated-same :
     {S : Type 0} (step step′ : ℕ → S → S) (hi : ℕ) (s : S) →

@@ -7,7 +7,7 @@ use lib.Dec.{eqb}
 use Rattle.method.specs.Floats.{pick}
 use Rattle.method.specs.Work.{Work}
 use Rattle.method.specs.Walk.{Tally, State, tallyBegun}
-use Rattle.method.specs.Checks.{Refusal, refusal}
+use Rattle.method.specs.Checks.{Refusal, notRefused}
 
 -- `none` goes with a refusal
 pub data Word : Type 0 where
@@ -43,4 +43,4 @@ wordOf s = pick (eqb (s .walk .tally .range) 1) settled stopped
 
 -- nothing is refused, and the walk's tally is reported as it is
 abbrev pub reported : State Work → Report
-reported s = record { refusal = refusal 0 0; word = wordOf s; tally = s .walk .tally }
+reported s = record { refusal = notRefused; word = wordOf s; tally = s .walk .tally }

@@ -13,9 +13,10 @@ use lib.Ieee.{Float, nan, binary64, lt, eq, mul}
 use Rattle.method.specs.Floats.{magnitude, signed}
 use Rattle.method.specs.Work.{Work, at}
 use Rattle.method.specs.Settings.{mostLimit}
-use Rattle.method.specs.Checks.{Refusal}
+use Rattle.method.specs.Checks.{nowhere, Refusal}
 use Rattle.method.specs.Checks.First.{First}
-use Rattle.method.specs.Checks.Readings.{FirstBadAt}
+use Rattle.method.specs.Checks.Readings.{FirstBad}
+use Rattle.method.specs.Checks.Table.{none-counted}
 use Rattle.method.specs.Report as Report
 use Rattle.method.specs.Report.{refused}
 use Rattle.method.specs.Outcome.{Outcome, outcomeOf, card, accepted}
@@ -28,7 +29,7 @@ use Rattle.method.specs.Ordered.Laws as Laws
 use Rattle.method.specs.Rows.{Side, sizeOf, rowAt, OwnRows, ZeroRow, exchanged}
 use Rattle.method.specs.Rows.Ordered.{orders-own, orders-zero, orders-exchanged}
 use Rattle.checks.specs.declared.settings.Settings.{Settings}
-use Rattle.checks.specs.Values.{settingsOf, refusalIn}
+use Rattle.checks.specs.Values.{settingsOf, placeIn, refusalIn}
 use Rattle.svd.specs.declared.report.Report.{Report}
 use Rattle.svd.specs.declared.report.Word.the-variants.{Settled}
 use Rattle.svd.specs.Values.{reportOf, wordIn, tallyOf}
@@ -69,9 +70,11 @@ module _ (rows cols : ℕ) (s : Settings) (w₀ : Work) (l₀ : List Float) (r :
         (r .refusal .number ≡ k)
         ↔ First k
         (orderedMeanings rows cols (settingsOf s) w₀ l₀ ++ afterMeanings rows cols (settingsOf s) w₀ l₀ binary64)
-    -- with 8 goes the place of the first reading that is not finite, with every other number 0
-    pub bad-reading : r .refusal .number ≡ 8 → FirstBadAt (w₀ .matrix) (r .refusal .place)
-    pub no-place : ¬ (r .refusal .number ≡ 8) → r .refusal .place ≡ 0
+    -- with 8 go the row and the column of the first reading that is not finite, and how many are not; with every other
+    -- number three zeros; so the count is 0 exactly when the number is not 8
+    pub bad-reading : r .refusal .number ≡ 8 → FirstBad cols rows cols (w₀ .matrix) (placeIn (r .refusal .place))
+    pub no-place : ¬ (r .refusal .number ≡ 8) → placeIn (r .refusal .place) ≡ nowhere
+    pub none-bad : (r .refusal .place .bad ≡ 0) ↔ (¬ (r .refusal .number ≡ 8))
     -- a call refused before the run reports that alone, and writes nothing
     pub alone : ¬ (r .refusal .number ≡ 0) → r .refusal .number < 12 → reportOf r ≡ refused (refusalIn (r .refusal))
     pub untouched : ¬ (r .refusal .number ≡ 0) → r .refusal .number < 12 → (w ≡ w₀) × (l ≡ l₀)
@@ -151,6 +154,7 @@ module _ {rows cols : ℕ} {s : Settings} {w₀ : Work} {l₀ : List Float} {r :
       record {
         number = λ k. rw number (ordered-numbers rows cols (settingsOf s) w₀ l₀ binary64 k);
         bad-reading = at .eight;
+        none-bad = none-counted true rows cols (settingsOf s) w₀ at;
         no-place = at .other;
         alone =
             λ h low.

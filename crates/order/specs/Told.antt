@@ -8,7 +8,7 @@ use Prim.Native.Nat.{ℕ, _≤_, _<_}
 use lib.Ieee.{Float, binary64}
 use Rattle.method.specs.Work.{Work}
 use Rattle.method.specs.Walk as Walk
-use Rattle.method.specs.Checks.Table.{Place}
+use Rattle.method.specs.Checks.Table.{TruePlace}
 use Rattle.method.specs.Report as Report
 use Rattle.method.specs.Report.{refused}
 use Rattle.method.specs.Outcome.{Outcome, outcomeOf, accepted, outcome}
@@ -48,7 +48,7 @@ module _ (rows cols : ℕ) (s : Settings) (w₀ : Work) (l₀ : List Float) (r :
   pub told-number : r .refusal .number ≡ answers rows cols (settingsOf s) w₀ l₀ binary64
   told-number = ap (λ (x : Report.Report). x .refusal .number) (reportsOf a)
 
-  pub told-place : Place true rows cols (settingsOf s) w₀ (refusalIn (r .refusal))
+  pub told-place : TruePlace true rows cols (settingsOf s) w₀ (refusalIn (r .refusal))
   told-place =
       rw (ap (λ (x : Report.Report). x .refusal) (reportsOf a)) (answer-place rows cols (settingsOf s) w₀ l₀ binary64)
 

@@ -68,21 +68,12 @@ fn run_refusal(b: &[f64], cols: usize, c: usize, word: Word) -> Refusal
     ensures { λ r. ⌜ refusalIn r ≡ firstOf (runChecks c (diagonal cols (now (b .entry))) (wordIn word)) ⌝ }
 {
     if !is_settled(word) {
-        return Refusal {
-            number: 12,
-            place: 0,
-        };
+        return Refusal::by(12);
     }
     if !all_finite(b, cols, c) {
-        return Refusal {
-            number: 13,
-            place: 0,
-        };
+        return Refusal::by(13);
     }
-    Refusal {
-        number: 0,
-        place: 0,
-    }
+    Refusal::by(0)
 }
 
 // A run's report with the refusal that came after it.

@@ -10,8 +10,8 @@ use Rattle.method.specs.Walk as Walk
 use Rattle.method.specs.Report as Report
 use Rattle.method.specs.Outcome.{Outcome, outcomeOf, fullOutcome, plainOutcome}
 use Rattle.checks.specs.declared.settings.Settings.{Settings}
-use Rattle.checks.specs.declared.refusal.Refusal.{Refusal}
 use Rattle.checks.specs.Values.{settingsOf}
+use Rattle.checks.specs.Answers.{fromRefusal}
 use Rattle.svd.specs.declared.tally.Tally.{Tally}
 use Rattle.svd.specs.declared.report.Report.{Report}
 use Rattle.svd.specs.declared.report.Word.{Word}
@@ -39,10 +39,7 @@ word-number-one w = equated-one (Report.wordNumber (wordIn w))
 pub word-one : (w w′ : Word) → wordIn w ≡ wordIn w′ → w ≡ w′
 word-one w w′ e = sym (from-word w) ∙ ap fromWord e ∙ from-word w′
 
--- the refusal and the tally by the method's
-abbrev fromRefusal : Checks.Refusal → Refusal
-fromRefusal r = record { number = r .number; place = r .place }
-
+-- the tally by the method's
 abbrev fromTally : Walk.Tally → Tally
 fromTally t = record { range = t .range; passes = t .passes; sweeps = t .sweeps; drops = t .drops }
 

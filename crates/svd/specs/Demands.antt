@@ -2,7 +2,7 @@
 -- and to leave in what it was lent. (That every call ends, without a fault, is what the checker shows of all code.)
 -- First the statements, `Demand1` to `Demand3`, then that they hold of every answer, and the laws of two calls; last,
 -- that each row of U and V goes its own way. They lean on the definition: `outcome`, `accepted` (method's Outcome), the
--- list `meanings` (method's Checks.Table), and on `OwnRows`, `rowAlone`, `ZeroRow`, `exchanged` (method's Rows). Assumes
+-- list `meanings` and `FirstBad` (method's Checks.Table, Checks.Readings), and on `OwnRows`, `rowAlone`, `ZeroRow`, `exchanged` (method's Rows). Assumes
 -- nothing.
 use mathlib.Core.Path.{_≡_, sym, ap, _∙_}
 use mathlib.Core.Logic.{_↔_}
@@ -16,10 +16,10 @@ use Rattle.method.specs.Work.{Work, work, packed}
 use Rattle.method.specs.Walk.{Rules, State, start, going, run}
 use Rattle.method.specs.Walk.Applied.{applied}
 use Rattle.method.specs.Settings.{mostLimit}
-use Rattle.method.specs.Checks.{refusalOf}
+use Rattle.method.specs.Checks.{nowhere, refusalOf}
 use Rattle.method.specs.Checks.First.{First}
-use Rattle.method.specs.Checks.Readings.{FirstBadAt}
-use Rattle.method.specs.Checks.Table.{meanings, numbers, place}
+use Rattle.method.specs.Checks.Readings.{FirstBad}
+use Rattle.method.specs.Checks.Table.{meanings, numbers, none-counted}
 use Rattle.method.specs.Report as Report
 use Rattle.method.specs.Report.{refused, reported}
 use Rattle.method.specs.Outcome.{Outcome, outcomeOf, card, rulesFor, formOf, accepted, outcome}
@@ -31,7 +31,7 @@ use Rattle.method.specs.View.{rowOf}
 use Rattle.method.specs.Rows.{Side, sizeOf, rowAt, OwnRows, rowAlone, ZeroRow, exchanged}
 use Rattle.method.specs.Rows.Calls.{calls-own, calls-alone, calls-zero, calls-exchanged}
 use Rattle.checks.specs.declared.settings.Settings.{Settings}
-use Rattle.checks.specs.Values.{settingsOf, refusalIn}
+use Rattle.checks.specs.Values.{settingsOf, placeIn, refusalIn}
 use Rattle.svd.specs.declared.report.Report.{Report}
 use Rattle.svd.specs.declared.report.Word.the-variants.{Settled, Stopped}
 use Rattle.svd.specs.Values.{tallyOf, reportOf, wordIn}
@@ -85,9 +85,11 @@ module _ (kept : Bool) (rows cols : ℕ) (s : Settings) (w₀ : Work) (r : Repor
   pub record Demand1 : Type 0 where
     -- the number is that of the first condition of the list that holds; 0 is answered exactly when none holds
     pub number : (k : ℕ) → (r .refusal .number ≡ k) ↔ First k (meanings kept rows cols (settingsOf s) w₀)
-    -- with 8 goes the place of the first reading that is not finite, with every other number 0
-    pub bad-reading : r .refusal .number ≡ 8 → FirstBadAt (w₀ .matrix) (r .refusal .place)
-    pub no-place : ¬ (r .refusal .number ≡ 8) → r .refusal .place ≡ 0
+    -- with 8 go the row and the column of the first reading that is not finite, and how many are not; with every other
+    -- number three zeros; so the count is 0 exactly when the number is not 8
+    pub bad-reading : r .refusal .number ≡ 8 → FirstBad cols rows cols (w₀ .matrix) (placeIn (r .refusal .place))
+    pub no-place : ¬ (r .refusal .number ≡ 8) → placeIn (r .refusal .place) ≡ nowhere
+    pub none-bad : (r .refusal .place .bad ≡ 0) ↔ (¬ (r .refusal .number ≡ 8))
     -- a refused call reports that alone: the word is `none`, and nothing is counted
     pub alone : ¬ (r .refusal .number ≡ 0) → reportOf r ≡ refused (refusalIn (r .refusal))
     -- and it writes nothing
@@ -143,11 +145,11 @@ module _ {kept : Bool} {rows cols : ℕ} {s : Settings} {w₀ : Work} {r : Repor
   demand-1 a =
       let number = told-number kept rows cols s w₀ r w (a .promise) in
       let at = told-place kept rows cols s w₀ r w (a .promise) in
-      let of = place kept rows cols (settingsOf s) w₀ in
       record {
         number = λ k. rw number (numbers kept rows cols (settingsOf s) w₀ k);
-        bad-reading = λ e. rw at (of .eight (sym number ∙ e));
-        no-place = λ h. at ∙ of .other (λ e. h (number ∙ e));
+        bad-reading = at .eight;
+        no-place = at .other;
+        none-bad = none-counted kept rows cols (settingsOf s) w₀ at;
         alone = told-alone kept rows cols s w₀ r w (a .promise);
         untouched = λ h. listsOf (told-refused kept rows cols s w₀ r w (a .promise) h);
       }

@@ -12,11 +12,11 @@ use Rattle.method.specs.Walk.{Tally, State, start, going}
 use Rattle.method.specs.Walk.Applied.{applied, Applied, walked-applied}
 use Rattle.method.specs.Checks as Checks
 use Rattle.method.specs.Checks.{refusalOf}
-use Rattle.method.specs.Checks.Table.{place, fit}
+use Rattle.method.specs.Checks.Table.{TruePlace, true-place, fit}
 use Rattle.method.specs.Report as Report
 use Rattle.method.specs.Report.{refused}
 use Rattle.method.specs.Outcome.{Outcome, outcomeOf, card, rulesFor, formOf, walkedFrom, accepted, outcome}
-use Rattle.method.specs.Outcome.Refused.{refused-outcome, accepted-outcome, outcome-number}
+use Rattle.method.specs.Outcome.Refused.{refused-outcome, accepted-outcome, outcome-refusal, outcome-number}
 use Rattle.method.specs.Outcome.Reports.{TrueReport, accepted-true}
 use Rattle.checks.specs.declared.settings.Settings.{Settings}
 use Rattle.checks.specs.Values.{settingsOf, refusalIn}
@@ -75,23 +75,11 @@ module _ (kept : Bool) (rows cols : ℕ) (s : Settings) (w₀ : Work) (r : Repor
         outcomeOf (reportOf r) w ≡ accepted binary64 kept rows cols (settingsOf s) w₀
     told-accepted e = a ∙ accepted-outcome binary64 kept rows cols (settingsOf s) w₀ (sym told-number ∙ e)
 
-    accepted-place : accepted binary64 kept rows cols (settingsOf s) w₀ .report .refusal .place ≡ 0
-    unfolding accepted
-    accepted-place = refl
-
-    -- the place that is told is the refusal's
-    pub told-place : r .refusal .place ≡ found .place
-    told-place = go (eqb (r .refusal .number) 0) refl
-      where
-        go : (t : Bool) → eqb (r .refusal .number) 0 ≡ t → r .refusal .place ≡ found .place
-        go true t =
-            let e = eqb-true (r .refusal .number) 0 t in
-            ap (λ (x : Report.Report). x .refusal .place) (reportsOf (told-accepted e))
-            ∙ accepted-place
-            ∙ sym (place kept rows cols (settingsOf s) w₀ .other (λ z. omega (arith, told-number, e, z)))
-        go false t =
-            let some = eqb-false (r .refusal .number) 0 t in
-            ap (λ (x : Report.Report). x .refusal .place) (reportsOf (told-refused some))
+    -- the refusal that is told is the definition's, so its place is true
+    pub told-place : TruePlace kept rows cols (settingsOf s) w₀ (refusalIn (r .refusal))
+    told-place =
+        rw (ap (λ (x : Report.Report). x .refusal) (reportsOf a) ∙ outcome-refusal binary64 kept rows cols (settingsOf s) w₀)
+        (true-place kept rows cols (settingsOf s) w₀)
 
     -- a refused call tells its refusal alone
     pub told-alone : ¬ (r .refusal .number ≡ 0) → reportOf r ≡ refused (refusalIn (r .refusal))

@@ -56,16 +56,14 @@ impl Report {
     pub(crate) fn accepted(walk: Walk, b: &[f64]) -> Report
         ensures { λ r. ⌜ reportOf r ≡ reported (stands (walkOf walk) (work (now (b .entry)) [] [])) ⌝ }
     {
+        let refusal = Refusal::by(0);
         let tally = walk.tally;
         let mut word = Word::Stopped;
         if tally.range == 1 {
             word = Word::Settled;
         }
         Report {
-            refusal: Refusal {
-                number: 0,
-                place: 0,
-            },
+            refusal: refusal,
             word: word,
             tally: tally,
         }

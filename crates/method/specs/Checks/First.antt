@@ -1,6 +1,6 @@
 -- The first of a list of checks that fails: of one list before another, and, where each check has its meaning, which
 -- number is given when. Numbers need not rise along a list. Assumes nothing.
-use mathlib.Core.Path.{_≡_, refl, sym, _∙_}
+use mathlib.Core.Path.{_≡_, refl, sym, ap, _∙_}
 use mathlib.Core.Logic.{_↔_, _⊎_, inl, inr, ⊎-elim}
 use mathlib.Core.Bool.{Bool, true, false, not, _&&_}
 use mathlib.Core.List.{List, [], _∷_, _++_}
@@ -8,7 +8,7 @@ use Prim.Native.Nat.{ℕ, _<_}
 use native.Mathlib.Omega.{arith}
 use lib.Dec.{ltb, eqb}
 use borrow.Author.Tests.{eq-eqb, ne-eqb}
-use Rattle.method.specs.Checks.{Check, placed, Refusal, refusal, firstOf}
+use Rattle.method.specs.Checks.{Place, placeOf, nowhere, Check, placed, Refusal, refusal, notRefused, firstOf}
 use Rattle.method.specs.Checks.Tests.{Says, denies, less, same, nor, both, holds}
 
 -- where the first check fails, it is the refusal
@@ -22,7 +22,7 @@ unfolding firstOf
 first-miss c cs e = rw (e, firstOf)
 
 -- where no check is left, there is no refusal
-pub first-none : firstOf [] ≡ refusal 0 0
+pub first-none : firstOf [] ≡ notRefused
 unfolding firstOf
 first-none = refl
 
@@ -58,6 +58,21 @@ first-join (c ∷ xs) ys e = go (c .fails) refl (first-join xs ys (n .1))
         rw (first-hit c (xs ++ ys) t, h, ne-eqb (c .number) 0 (λ z. omega (arith, n .0)), orElse) (sym h)
     go false t ih = rw (first-miss c (xs ++ ys) t, first-miss c xs t) ih
 
+-- where no number is given, no place is
+pub first-clear : (cs : List Check) → numbered cs ≡ true → firstOf cs .number ≡ 0 → firstOf cs ≡ notRefused
+unfolding firstOf
+first-clear [] e z = refl
+first-clear (c ∷ cs) e z = go (c .fails) refl (first-clear cs (n .1))
+  where
+    n : (0 < c .number) × (numbered cs ≡ true)
+    n = both (less 0 (c .number)) (holds (numbered cs)) .0 e
+
+    go :
+        (b : Bool) → c .fails ≡ b → (firstOf cs .number ≡ 0 → firstOf cs ≡ notRefused) →
+        firstOf (c ∷ cs) ≡ notRefused
+    go true t ih = absurd (omega (arith, n .0, rw (first-hit c cs t) at z))
+    go false t ih = first-miss c cs t ∙ ih (rw (first-miss c cs t) at z)
+
 module _ (xs ys : List Check) (n : numbered xs ≡ true) {r : Refusal} (e : r ≡ firstOf xs) where
   -- so the one's refusal is the refusal, where it has one,
   pub first-here : ¬ (r .number ≡ 0) → r ≡ firstOf (xs ++ ys)
@@ -82,7 +97,7 @@ infixr 3 _⨾_
 pub data Means : List Check → List Meaning → Type 1 where
   done : Means [] []
   _⨾_ :
-      {n p : ℕ} {t : Bool} {A : Type 0} {cs : List Check} {ms : List Meaning} → Says t A → Means cs ms →
+      {n : ℕ} {p : Place} {t : Bool} {A : Type 0} {cs : List Check} {ms : List Meaning} → Says t A → Means cs ms →
       Means (placed n t p ∷ cs) (means n A ∷ ms)
 
 -- of one list after another, too
@@ -160,10 +175,32 @@ abbrev pub below : ℕ → List Check → Bool
 below n [] = ltb 0 n
 below n (c ∷ cs) = ltb (c .number) n && below n cs
 
+-- a place tells nothing: a test
+abbrev blank : Place → Bool
+blank p = eqb (p .row) 0 && (eqb (p .column) 0 && eqb (p .bad) 0)
+
+blank-says : (p : Place) → Says (blank p) (p ≡ nowhere)
+blank-says p = (λ e. zeros (three .0 e), λ e. three .1 (parts e))
+  where
+    Zeros : Type 0
+    Zeros = (p .row ≡ 0) × ((p .column ≡ 0) × (p .bad ≡ 0))
+
+    three : Says (eqb (p .row) 0 && (eqb (p .column) 0 && eqb (p .bad) 0)) Zeros
+    three = both (same (p .row) 0) (both (same (p .column) 0) (same (p .bad) 0))
+
+    zeros : Zeros → p ≡ nowhere
+    zeros z =
+        ap (λ (i : ℕ). placeOf i (p .column) (p .bad)) (z .0)
+        ∙ ap (λ (j : ℕ). placeOf 0 j (p .bad)) (z .1 .0)
+        ∙ ap (placeOf 0 0) (z .1 .1)
+
+    parts : p ≡ nowhere → Zeros
+    parts e = (ap (λ (q : Place). q .row) e, (ap (λ (q : Place). q .column) e, ap (λ (q : Place). q .bad) e))
+
 -- none carries a place, and none has the number n: a test
 abbrev pub placeless : ℕ → List Check → Bool
 placeless n [] = true
-placeless n (c ∷ cs) = (eqb (c .place) 0 && not (eqb (c .number) n)) && placeless n cs
+placeless n (c ∷ cs) = (blank (c .place) && not (eqb (c .number) n)) && placeless n cs
 
 pub first-below : (n : ℕ) (cs : List Check) → below n cs ≡ true → firstOf cs .number < n
 unfolding firstOf
@@ -178,16 +215,17 @@ first-below n (c ∷ cs) e = go (c .fails) refl (first-below n cs (h .1))
     go false t ih = rw (first-miss c cs t) ih
 
 pub first-placeless :
-    (n : ℕ) (cs : List Check) → 0 < n → placeless n cs ≡ true → (firstOf cs .place ≡ 0) × (¬ (firstOf cs .number ≡ n))
+    (n : ℕ) (cs : List Check) → 0 < n → placeless n cs ≡ true →
+    (firstOf cs .place ≡ nowhere) × (¬ (firstOf cs .number ≡ n))
 unfolding firstOf
 first-placeless n [] some e = (refl, λ z. omega arith)
 first-placeless n (c ∷ cs) some e = go (c .fails) refl (first-placeless n cs some (h .1))
   where
-    h : ((c .place ≡ 0) × (¬ (c .number ≡ n))) × (placeless n cs ≡ true)
-    h = both (both (same (c .place) 0) (nor (same (c .number) n))) (holds (placeless n cs)) .0 e
+    h : ((c .place ≡ nowhere) × (¬ (c .number ≡ n))) × (placeless n cs ≡ true)
+    h = both (both (blank-says (c .place)) (nor (same (c .number) n))) (holds (placeless n cs)) .0 e
 
     go :
-        (b : Bool) → c .fails ≡ b → (firstOf cs .place ≡ 0) × (¬ (firstOf cs .number ≡ n)) →
-        (firstOf (c ∷ cs) .place ≡ 0) × (¬ (firstOf (c ∷ cs) .number ≡ n))
+        (b : Bool) → c .fails ≡ b → (firstOf cs .place ≡ nowhere) × (¬ (firstOf cs .number ≡ n)) →
+        (firstOf (c ∷ cs) .place ≡ nowhere) × (¬ (firstOf (c ∷ cs) .number ≡ n))
     go true t ih = rw (first-hit c cs t) (h .0)
     go false t ih = rw (first-miss c cs t) ih

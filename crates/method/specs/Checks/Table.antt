@@ -1,6 +1,6 @@
 -- The table of rule 2.1 as theorems: what each number means, that the answer is the first of the list that applies and
 -- 0 where none does, the place that 8 carries, and what an acceptance tells. Assumes nothing.
-use mathlib.Core.Path.{_≡_, refl}
+use mathlib.Core.Path.{_≡_, refl, ap}
 use mathlib.Core.Logic.{_↔_, _⊎_, inl, inr}
 use mathlib.Core.Bool.{Bool, true, false}
 use mathlib.Core.List.{List, [], _∷_, _++_}
@@ -14,14 +14,14 @@ use lib.Dec.{ltb, eqb}
 use Rattle.method.specs.Floats.{plusZero}
 use Rattle.method.specs.Work.{Work}
 use Rattle.method.specs.Settings.{Settings, mostSize, mostLimit, mostCredit}
-use Rattle.method.specs.Checks.{Check, placed, Refusal, firstOf, firstBad, boundFit, floorFit, sizeChecks}
-use Rattle.method.specs.Checks.{refusal, lengthChecks, tableChecks, settingChecks, readingChecks, checks}
+use Rattle.method.specs.Checks.{Place, nowhere, badReadings, Check, placed, Refusal, firstOf, boundFit}
+use Rattle.method.specs.Checks.{floorFit, sizeChecks, refusal, lengthChecks, tableChecks, settingChecks, readingChecks, checks}
 use Rattle.method.specs.Checks.{refusalOf}
 use Rattle.method.specs.Checks.Tests.{less, same, holds, lacks, nor, either, both, notAll, some, few, equal}
 use Rattle.method.specs.Checks.First.{first-here, first-beyond, first-hit, first-miss, first-none, Meaning, means}
 use Rattle.method.specs.Checks.First.{Means, done, _⨾_, means-join, First, first-means, None, none-join}
 use Rattle.method.specs.Checks.First.{none-refused, given, first-below, first-placeless}
-use Rattle.method.specs.Checks.Readings.{firstBad-searched, BadReading, bad-reading, FirstBadAt}
+use Rattle.method.specs.Checks.Readings.{BadReading, bad-reading, FirstBad, first-bad}
 
 -- ---- the conditions
 
@@ -82,19 +82,22 @@ settingMeanings s =
     ∷ means 7 (UnfitBounds s)
     ∷ []
 
-abbrev pub readingMeanings : List Float → List Meaning
-readingMeanings b = means 8 (BadReading b) ∷ []
+abbrev pub readingMeanings : ℕ → ℕ → List Float → List Meaning
+readingMeanings rows cols b = means 8 (BadReading cols rows cols b) ∷ []
 
 abbrev pub meanings : Bool → ℕ → ℕ → Settings → Work → List Meaning
 meanings kept rows cols s w =
-    sizeMeanings rows cols ++ lengthMeanings kept rows cols w ++ settingMeanings s ++ readingMeanings (w .matrix)
+    sizeMeanings rows cols
+    ++ lengthMeanings kept rows cols w
+    ++ settingMeanings s
+    ++ readingMeanings rows cols (w .matrix)
 
 -- none of the conditions holds, segment by segment
 pub record Clear (kept : Bool) (rows cols : ℕ) (s : Settings) (w : Work) : Type 0 where
   pub sizes : None (sizeMeanings rows cols)
   pub lengths : None (lengthMeanings kept rows cols w)
   pub settings : None (settingMeanings s)
-  pub readings : None (readingMeanings (w .matrix))
+  pub readings : None (readingMeanings rows cols (w .matrix))
 
 -- the checks before the readings
 abbrev before : Bool → ℕ → ℕ → Settings → Work → List Check
@@ -122,8 +125,9 @@ setting-tests s =
     ⨾ notAll (boundFit (s .tolerance)) (boundFit (s .absolute)) (floorFit (s .floor))
     ⨾ done
 
-pub reading-tests : (b : List Float) → Means (readingChecks b) (readingMeanings b)
-reading-tests b = bad-reading b ⨾ done
+pub reading-tests :
+    (rows cols : ℕ) (b : List Float) → Means (readingChecks rows cols b) (readingMeanings rows cols b)
+reading-tests rows cols b = bad-reading cols rows cols b ⨾ done
 
 -- sizes that are not refused are small
 pub sizes-passed :
@@ -152,7 +156,7 @@ module _ (kept : Bool) (rows cols : ℕ) (s : Settings) (w : Work) where
   tests : Means (checks kept rows cols s w) (meanings kept rows cols s w)
   tests =
       means-join (size-tests rows cols)
-      (means-join (length-tests kept rows cols w) (means-join (setting-tests s) (reading-tests (w .matrix))))
+      (means-join (length-tests kept rows cols w) (means-join (setting-tests s) (reading-tests rows cols (w .matrix))))
 
   -- The number that a call answers is k exactly when k is the number of the first condition that holds, or when k is 0
   -- and none holds.
@@ -165,7 +169,7 @@ module _ (kept : Bool) (rows cols : ℕ) (s : Settings) (w : Work) where
       let sizes = sizeMeanings rows cols in
       let lengths = lengthMeanings kept rows cols w in
       let settings = settingMeanings s in
-      let readings = readingMeanings (w .matrix) in (
+      let readings = readingMeanings rows cols (w .matrix) in (
         λ e.
             let p = none-join sizes (lengths ++ settings ++ readings) .0 (none-refused tests refl .0 e) in
             let q = none-join lengths (settings ++ readings) .0 (p .1) in
@@ -182,12 +186,12 @@ module _ (kept : Bool) (rows cols : ℕ) (s : Settings) (w : Work) where
       None (sizeMeanings rows cols) →
       None (lengthMeanings kept rows cols w) →
       None (settingMeanings s) →
-      BadReading (w .matrix) →
+      BadReading cols rows cols (w .matrix) →
       refusalOf kept rows cols s w .number ≡ 8
   eight-given a b c x =
       numbers 8 .1
-      (given (sizeMeanings rows cols ++ lengthMeanings kept rows cols w ++ settingMeanings s) 8 (BadReading (w .matrix))
-      [] x
+      (given (sizeMeanings rows cols ++ lengthMeanings kept rows cols w ++ settingMeanings s) 8
+      (BadReading cols rows cols (w .matrix)) [] x
       (none-join (sizeMeanings rows cols) (lengthMeanings kept rows cols w ++ settingMeanings s) .1
       (a, none-join (lengthMeanings kept rows cols w) (settingMeanings s) .1 (b, c))))
 
@@ -197,49 +201,55 @@ module _ (kept : Bool) (rows cols : ℕ) (s : Settings) (w : Work) where
 
   -- ---- the place
 
-  -- a refusal by 8 carries the place of the first bad reading, any other answer place 0
-  pub record Place (r : Refusal) : Type 0 where
-    pub eight : r .number ≡ 8 → FirstBadAt (w .matrix) (r .place)
-    pub other : ¬ (r .number ≡ 8) → r .place ≡ 0
+  -- a refusal by 8 carries the place of the first bad reading and how many there are, any other answer zeros
+  pub record TruePlace (r : Refusal) : Type 0 where
+    pub eight : r .number ≡ 8 → FirstBad cols rows cols (w .matrix) (r .place)
+    pub other : ¬ (r .number ≡ 8) → r .place ≡ nowhere
 
-  reading-place : Place (firstOf (readingChecks (w .matrix)))
-  reading-place = go (ltb (firstBad (w .matrix)) (length (w .matrix))) refl
+  -- so none is counted exactly when the number is not 8
+  pub none-counted : {r : Refusal} → TruePlace r → (r .place .bad ≡ 0) ↔ (¬ (r .number ≡ 8))
+  none-counted t = (
+    λ z e. absurd (omega (arith, t .eight e .some, z)),
+    λ h. ap (λ (p : Place). p .bad) (t .other h),
+  )
+
+  reading-place : TruePlace (firstOf (readingChecks rows cols (w .matrix)))
+  reading-place = go (ltb 0 (found .bad)) refl
     where
-      reading : Check
-      reading = placed 8 (ltb (firstBad (w .matrix)) (length (w .matrix))) (firstBad (w .matrix))
+      found : Place
+      found = badReadings cols rows cols (w .matrix)
 
-      go :
-          (b : Bool) → ltb (firstBad (w .matrix)) (length (w .matrix)) ≡ b → Place (firstOf (readingChecks (w .matrix)))
+      reading : Check
+      reading = placed 8 (ltb 0 (found .bad)) found
+
+      go : (b : Bool) → ltb 0 (found .bad) ≡ b → TruePlace (firstOf (readingChecks rows cols (w .matrix)))
       go true t =
-          let i = ltb-true (firstBad (w .matrix)) (length (w .matrix)) t in
-          let e : firstOf (readingChecks (w .matrix)) ≡ refusal 8 (firstBad (w .matrix)) = first-hit reading [] t in
+          let e : firstOf (readingChecks rows cols (w .matrix)) ≡ refusal 8 found = first-hit reading [] t in
+          let l = ltb-true 0 (found .bad) t in
           rw e
           record {
-            eight =
-                λ e.
-                record {
-                  inside = i;
-                  bad = firstBad-searched (w .matrix) .bad i;
-                  before = firstBad-searched (w .matrix) .before;
-                };
+            eight = λ e. first-bad cols rows cols (w .matrix) (λ z. omega (arith, l, z));
             other = λ h. absurd (h refl);
           }
       go false t =
-          let e : firstOf (readingChecks (w .matrix)) ≡ firstOf [] = first-miss reading [] t in
+          let e : firstOf (readingChecks rows cols (w .matrix)) ≡ firstOf [] = first-miss reading [] t in
           rw (e, first-none) record { eight = λ q. absurd (omega (arith, q)); other = λ h. refl }
 
-  pub place : Place (refusalOf kept rows cols s w)
-  place = go (eqb (firstOf (before kept rows cols s w) .number) 0) refl
+  pub true-place : TruePlace (refusalOf kept rows cols s w)
+  true-place = go (eqb (firstOf (before kept rows cols s w) .number) 0) refl
     where
-      go : (b : Bool) → eqb (firstOf (before kept rows cols s w) .number) 0 ≡ b → Place (refusalOf kept rows cols s w)
+      go :
+          (b : Bool) → eqb (firstOf (before kept rows cols s w) .number) 0 ≡ b →
+          TruePlace (refusalOf kept rows cols s w)
       go true e =
           rw
-          (first-beyond (before kept rows cols s w) (readingChecks (w .matrix)) refl refl (eqb-true _ 0 e)
-          {q = firstOf (readingChecks (w .matrix))} refl)
+          (first-beyond (before kept rows cols s w) (readingChecks rows cols (w .matrix)) refl refl (eqb-true _ 0 e)
+          {q = firstOf (readingChecks rows cols (w .matrix))} refl)
           at reading-place
       go false e =
           let q = first-placeless 8 (before kept rows cols s w) (omega arith) refl in
-          rw (← first-here (before kept rows cols s w) (readingChecks (w .matrix)) refl refl (eqb-false _ 0 e))
+          rw
+          (← first-here (before kept rows cols s w) (readingChecks rows cols (w .matrix)) refl refl (eqb-false _ 0 e))
           record { eight = λ z. absurd (q .1 z); other = λ h. q .0 }
 
 -- ---- what an acceptance tells

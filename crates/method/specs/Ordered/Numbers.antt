@@ -16,17 +16,17 @@ use borrow.Author.Tests.{eqb-true, eqb-false, le-leb, lt-leb}
 use Rattle.method.specs.Repeated.{repeated-none, repeated-next, repeated-suc}
 use Rattle.method.specs.Work.{Work}
 use Rattle.method.specs.Settings.{Settings}
-use Rattle.method.specs.Checks.{Check, Refusal, refusal, firstOf, refusalOf}
+use Rattle.method.specs.Checks.{nowhere, Check, Refusal, notRefused, firstOf, refusalOf}
 use Rattle.method.specs.Checks.Tests.{Says, same, nor, both, holds, equal}
 use Rattle.method.specs.Checks.First.{first-here, first-beyond, first-below, first-placeless, Meaning, means}
 use Rattle.method.specs.Checks.First.{Means, done, _⨾_, means-join, First, first-means, None, none-join}
 use Rattle.method.specs.Checks.First.{none-refused}
 use Rattle.method.specs.Checks.Table.{sizeMeanings, lengthMeanings, settingMeanings, readingMeanings}
 use Rattle.method.specs.Checks.Table.{size-tests, length-tests, setting-tests, reading-tests}
-use Rattle.method.specs.Checks.Table.{Place, place, Fit, fit}
+use Rattle.method.specs.Checks.Table.{TruePlace, true-place, Fit, fit}
 use Rattle.method.specs.Report.{Word, none, settled, stopped, isSettled, wordNumber}
 use Rattle.method.specs.Outcome.{Outcome, card, accepted}
-use Rattle.method.specs.Outcome.Refused.{accepted-number}
+use Rattle.method.specs.Outcome.Refused.{accepted-refusal, accepted-number}
 use Rattle.method.specs.Order.{diagonal}
 use Rattle.method.specs.Order.Sizes.{Finite}
 use Rattle.method.specs.Ordered.{lentChecks, orderedChecks, orderedRefusal, allFinite, runChecks}
@@ -92,7 +92,7 @@ lentMeanings rows cols w l =
 
 abbrev pub orderedMeanings : ℕ → ℕ → Settings → Work → List Float → List Meaning
 orderedMeanings rows cols s w l =
-    lentMeanings rows cols w l ++ settingMeanings s ++ readingMeanings (w .matrix)
+    lentMeanings rows cols w l ++ settingMeanings s ++ readingMeanings rows cols (w .matrix)
 
 -- 12: the run did not settle; 13: one of the first c entries of its diagonal is not finite
 abbrev pub runMeanings : ℕ → (ℕ → Float) → Word → List Meaning
@@ -116,7 +116,7 @@ run-late c d word h =
 -- and carry no place
 run-placeless :
     (c : ℕ) (d : ℕ → Float) (word : Word) →
-    (firstOf (runChecks c d word) .place ≡ 0) × (¬ (firstOf (runChecks c d word) .number ≡ 8))
+    (firstOf (runChecks c d word) .place ≡ nowhere) × (¬ (firstOf (runChecks c d word) .number ≡ 8))
 run-placeless c d word = first-placeless 8 (runChecks c d word) (omega arith) refl
 
 -- what is not refused after the run settled, and is finite
@@ -157,7 +157,7 @@ lent-fit rows cols w l e =
 
 module _ (rows cols : ℕ) (s : Settings) (w : Work) (l : List Float) where
   ordered-tests : Means (orderedChecks rows cols s w l) (orderedMeanings rows cols s w l)
-  ordered-tests = means-join (lent-tests rows cols w l) (means-join (setting-tests s) (reading-tests (w .matrix)))
+  ordered-tests = means-join (lent-tests rows cols w l) (means-join (setting-tests s) (reading-tests rows cols (w .matrix)))
 
   -- what the accumulating call, besides, would not refuse
   pub lent-none :
@@ -175,14 +175,14 @@ module _ (rows cols : ℕ) (s : Settings) (w : Work) (l : List Float) where
           let h = eqb-false _ 0 t in
           absurd (h (ap (λ (x : Refusal). x .number) (lent-refused rows cols s w l refl h) ∙ e))
 
-  -- a refusal by 8 carries the place of the first bad reading, any other answer place 0
-  pub ordered-place : Place true rows cols s w (orderedRefusal rows cols s w l)
+  -- a refusal by 8 carries the place of the first bad reading and how many there are, any other answer zeros
+  pub ordered-place : TruePlace true rows cols s w (orderedRefusal rows cols s w l)
   ordered-place = go (eqb (firstOf (lentChecks rows cols w l) .number) 0) refl
     where
       go :
           (b : Bool) → eqb (firstOf (lentChecks rows cols w l) .number) 0 ≡ b →
-          Place true rows cols s w (orderedRefusal rows cols s w l)
-      go true t = rw (lent-passed rows cols s w l refl (eqb-true _ 0 t)) (place true rows cols s w)
+          TruePlace true rows cols s w (orderedRefusal rows cols s w l)
+      go true t = rw (lent-passed rows cols s w l refl (eqb-true _ 0 t)) (true-place true rows cols s w)
       go false t =
           let q = first-placeless 8 (lentChecks rows cols w l) (omega arith) refl in
           rw (← lent-refused rows cols s w l refl (eqb-false _ 0 t))
@@ -283,27 +283,23 @@ module _ (rows cols : ℕ) (s : Settings) (w : Work) (l : List Float) where
     pub ordered-found : 12 ≤ answers → ¬ (foundAfter rows cols ran l .number ≡ 0)
     ordered-found high e = omega (arith, high, ran-number (ordered-after high), e)
 
-    accepted-refusal : ran .report .refusal ≡ refusal 0 0
-    unfolding accepted
-    accepted-refusal = refl
-
     -- the place of the answer
-    pub answer-place : Place true rows cols s w (orderedOutcome f rows cols s w l .run .report .refusal)
+    pub answer-place : TruePlace true rows cols s w (orderedOutcome f rows cols s w l .run .report .refusal)
     answer-place =
         go (eqb (orderedRefusal rows cols s w l .number) 0) refl (eqb (foundAfter rows cols ran l .number) 0) refl
       where
-        none-placed : Place true rows cols s w (refusal 0 0)
+        none-placed : TruePlace true rows cols s w (notRefused)
         none-placed = record { eight = λ z. absurd (omega (arith, z)); other = λ h. refl }
 
         go :
             (b : Bool) → eqb (orderedRefusal rows cols s w l .number) 0 ≡ b →
             (b′ : Bool) → eqb (foundAfter rows cols ran l .number) 0 ≡ b′ →
-            Place true rows cols s w (orderedOutcome f rows cols s w l .run .report .refusal)
+            TruePlace true rows cols s w (orderedOutcome f rows cols s w l .run .report .refusal)
         go true t true t′ =
             rw (
               ran-on rows cols s w l f (eqb-true _ 0 t),
               put-in-order rows cols ran l (eqb-true _ 0 t′),
-              accepted-refusal,
+              accepted-refusal f true rows cols s w,
             )
             none-placed
         go true t false t′ =

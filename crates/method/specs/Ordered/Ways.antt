@@ -25,7 +25,7 @@ module _ (rows cols : ℕ) (s : Settings) (w : Work) (l : List Float) where
   pub lent-refused :
       {r : Refusal} → r ≡ firstOf (lentChecks rows cols w l) → ¬ (r .number ≡ 0) → r ≡ orderedRefusal rows cols s w l
   lent-refused e h =
-      first-here (lentChecks rows cols w l) (settingChecks s ++ readingChecks (w .matrix)) refl e h
+      first-here (lentChecks rows cols w l) (settingChecks s ++ readingChecks rows cols (w .matrix)) refl e h
 
   -- where nothing is, sizes and lengths are fit, too,
   table-passed :
@@ -48,7 +48,7 @@ module _ (rows cols : ℕ) (s : Settings) (w : Work) (l : List Float) where
       {r : Refusal} → r ≡ firstOf (lentChecks rows cols w l) → r .number ≡ 0 →
       orderedRefusal rows cols s w l ≡ refusalOf true rows cols s w
   lent-passed e z =
-      let rest = settingChecks s ++ readingChecks (w .matrix) in
+      let rest = settingChecks s ++ readingChecks rows cols (w .matrix) in
       sym (first-beyond (lentChecks rows cols w l) rest refl e z refl)
       ∙ first-beyond (tableChecks true rows cols w) rest refl refl
       (table-passed (rw e at z)) refl

@@ -16,6 +16,7 @@ use Rattle.method.specs.Walk.{Walk, State, start, run}
 use Rattle.method.specs.Walk.Counts.{WholeWalk, whole-walk}
 use Rattle.method.specs.Walk.Limits as Limits
 use Rattle.method.specs.Walk.Applied.{applied, walked-applied}
+use Rattle.method.specs.Checks.{nowhere}
 use Rattle.method.specs.Report.{settled, stopped, Report}
 use Rattle.method.specs.Report.Words.{settled-one, one-settled, more-stopped}
 use Rattle.method.specs.Outcome.{card, rulesFor, formOf, walkedFrom, accepted}
@@ -25,7 +26,7 @@ use Rattle.method.specs.Settings.{Settings, mostSize}
 
 pub record TrueReport (s : Settings) (c : ℕ) (r : Report) : Type 0 where
   pub number : r .refusal .number ≡ 0
-  pub place : r .refusal .place ≡ 0
+  pub place : r .refusal .place ≡ nowhere
   pub each : r .tally .passes ≡ r .tally .sweeps + r .tally .drops
   pub drops : r .tally .drops ≡ c - r .tally .range
   pub range : (1 ≤ r .tally .range) × (r .tally .range ≤ c)

@@ -17,7 +17,7 @@ use Rattle.method.specs.Bidiagonal.{columnMatrix, rowMatrix, factorRefle
 use Rattle.method.specs.Bidiagonal.{placesZeroed, bidiagonal}
 use Rattle.method.specs.Chase.{turned, singular, negligible, steps, swept}
 use Rattle.method.specs.Walk.{pass, run}
-use Rattle.method.specs.Checks.{firstOf, firstBad}
+use Rattle.method.specs.Checks.{counted, looked, badReadings, firstOf}
 use Rattle.method.specs.Fill.{identity}
 use Rattle.method.specs.Outcome.{accepted, outcome, fullOutcome}
 use Rattle.method.specs.Defaults.{defaultTolerance, defaultAbsolute, defaultFloor}
@@ -50,6 +50,6 @@ unfolding ofBits toBits neg add sub mul div lt eq isNan magnitude signOf smaller
     rotationOf pairTurned rowsTurned columnsTurned lineCopied lineCleared timesFrom largestOf scaled squaresOf
     reflectionOf rowTimes tailLess rowLess rowReflected reflectedRight rowAdded rowsAdded columnSums rowLessAll
     rowLessTimes lowerLess rowsLess reflectedLeft columnMatrix rowMatrix factorReflected columnZeroed rowZeroed
-    placesZeroed bidiagonal turned singular negligible steps swept pass run firstOf firstBad accepted outcome identity
+    placesZeroed bidiagonal turned singular negligible steps swept pass run counted looked badReadings firstOf accepted outcome identity
     defaultTolerance defaultAbsolute defaultFloor
 zero-row-cases = refl

@@ -14,7 +14,7 @@ mul-wrong-length c =
     record { fits = omega (arith, few (at-start .args .rows) (at-start .args .cols) (omega arith) (omega arith)) }
 
 returns : tie.Need-returns
-returns c = c .refuse .ensures ∙ sym (first-hit _ _ (sym (c .before .before .wrong-length .ensures) ∙ c .before .if1 .taken))
+returns c = c .by .ensures ∙ sym (first-hit _ _ (sym (c .before .before .wrong-length .ensures) ∙ c .before .if1 .taken))
 
 mul-wrong-length-2 : tie.Need-mul-wrong-length-2
 mul-wrong-length-2 c =
@@ -24,7 +24,7 @@ mul-wrong-length-2 c =
 returns-2 : tie.Need-returns-2
 returns-2 c =
     let at-first = c .before .before .before .before in
-    c .refuse2 .ensures
+    c .by2 .ensures
     ∙ sym (first-miss _ _ (sym (at-first .wrong-length .ensures) ∙ c .before .before .before .if1 .left)
     ∙ first-hit _ _ (sym (c .before .before .wrong-length2 .ensures) ∙ c .before .if2 .taken))
 
@@ -37,7 +37,7 @@ returns-3 : tie.Need-returns-3
 returns-3 c =
     let at-second = c .before .before .before .before in
     let at-first = at-second .before .before in
-    c .refuse3 .ensures
+    c .by3 .ensures
     ∙ sym (first-miss _ _ (sym (at-first .wrong-length .ensures) ∙ at-second .before .if1 .left)
     ∙ first-miss _ _ (sym (at-second .wrong-length2 .ensures) ∙ c .before .before .before .if2 .left)
     ∙ first-hit _ _ (sym (c .before .before .wrong-length3 .ensures) ∙ c .before .if3 .taken))
@@ -46,7 +46,7 @@ returns-4 : tie.Need-returns-4
 returns-4 c =
     let at-second = c .before .before .before .before in
     let at-first = at-second .before .before in
-    c .refuse4 .ensures
+    c .by4 .ensures
     ∙ sym (first-miss _ _ (sym (at-first .wrong-length .ensures) ∙ at-second .before .if1 .left)
     ∙ first-miss _ _ (sym (at-second .wrong-length2 .ensures) ∙ c .before .before .before .if2 .left)
     ∙ first-miss _ _ (sym (c .before .before .wrong-length3 .ensures) ∙ c .before .if3 .left)

@@ -9,13 +9,13 @@ returns : tie.Need-returns
 returns c =
     let at-test = c .before .before in
     let test = rw (at-test .before .smaller-size .ensures) at (at-test .wrong-length .ensures) in
-    c .refuse .ensures ∙ sym (first-hit _ _ (sym test ∙ c .before .if1 .taken))
+    c .by .ensures ∙ sym (first-hit _ _ (sym test ∙ c .before .if1 .taken))
 
 returns-2 : tie.Need-returns-2
 returns-2 c =
     let at-test = c .before .before in
     let test = rw (at-test .before .smaller-size .ensures) at (at-test .wrong-length .ensures) in
-    c .refuse2 .ensures ∙ sym (first-miss _ _ (sym test ∙ c .before .if1 .left) ∙ first-none)
+    c .by2 .ensures ∙ sym (first-miss _ _ (sym test ∙ c .before .if1 .left) ∙ first-none)
 
 pub list-refusal-spec : {M : Type 1} → statement M
 list-refusal-spec =

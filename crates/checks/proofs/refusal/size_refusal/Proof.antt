@@ -6,19 +6,19 @@ use Rattle.checks.proofs.refusal.size_refusal.Statement.{statement}
 use Rattle.checks.proofs.refusal.size_refusal.Tie as tie
 
 returns : tie.Need-returns
-returns c = c .refuse .ensures ∙ sym (first-hit _ _ (sym (c .before .before .no-size .ensures) ∙ c .before .if1 .taken))
+returns c = c .by .ensures ∙ sym (first-hit _ _ (sym (c .before .before .no-size .ensures) ∙ c .before .if1 .taken))
 
 returns-2 : tie.Need-returns-2
 returns-2 c =
     let at-no-size = c .before .before .before .before in
-    c .refuse2 .ensures
+    c .by2 .ensures
     ∙ sym (first-miss _ _ (sym (at-no-size .no-size .ensures) ∙ c .before .before .before .if1 .left)
     ∙ first-hit _ _ (sym (c .before .before .too-large .ensures) ∙ c .before .if2 .taken))
 
 returns-3 : tie.Need-returns-3
 returns-3 c =
     let at-no-size = c .before .before .before .before in
-    c .refuse3 .ensures
+    c .by3 .ensures
     ∙ sym (first-miss _ _ (sym (at-no-size .no-size .ensures) ∙ c .before .before .before .if1 .left)
     ∙ first-miss _ _ (sym (c .before .before .too-large .ensures) ∙ c .before .if2 .left)
     ∙ first-none)
