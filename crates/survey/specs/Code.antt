@@ -66,7 +66,9 @@ surveyOf e xs = record { entry = e; readings = xs }
 -- the numbers of a report that have at most 6 digits
 pub record Small (r : Report) : Type 0 where
   pub number : r .refusal .number < 1000000
-  pub place : r .refusal .place < 1000000
+  pub row : r .refusal .place .row < 1000000
+  pub column : r .refusal .place .column < 1000000
+  pub bad : r .refusal .place .bad < 1000000
   pub passes : r .tally .passes < 1000000
   pub sweeps : r .tally .sweeps < 1000000
   pub drops : r .tally .drops < 1000000

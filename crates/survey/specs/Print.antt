@@ -49,9 +49,12 @@ reportText id r =
     lineText
     (shown id ∷ wordText (r .word) ∷ shown (t .passes) ∷ shown (t .sweeps) ∷ shown (t .drops) ∷ shown (t .range) ∷ [])
 
--- `id refused number place`
+-- `id refused number row column count`
 unfoldable pub refusedText : ℕ → Report → Bytes
-refusedText id r = lineText (shown id ∷ refusedWord ∷ shown (r .refusal .number) ∷ shown (r .refusal .place) ∷ [])
+refusedText id r =
+    let p = r .refusal .place in
+    lineText
+    (shown id ∷ refusedWord ∷ shown (r .refusal .number) ∷ shown (p .row) ∷ shown (p .column) ∷ shown (p .bad) ∷ [])
 
 -- the report and then the rows of the matrix; of a refusal its line alone
 unfoldable pub outcomeText : ℕ → ℕ → ℕ → Outcome → Bytes

@@ -77,8 +77,9 @@ module _ (e : Entry) (xs : List Float) (r : InRange e) (l : length xs ≡ e .row
           rw (outcome-accepted (e .id) (e .rows) (e .cols) told (eqb-true (told .report .refusal .number) 0 x))
           (omega (arith, length-append (reportText (e .id) (told .report)) (rowsText (e .rows) (e .cols) (told .held .matrix)), w, q, area e r .0))
       go false x s m =
-          let w = line-most (shown (e .id) ∷ refusedWord ∷ shown (told .report .refusal .number) ∷ shown (told .report .refusal .place) ∷ [])
-          (shown-most (e .id) id-few, (omega arith, (shown-most (told .report .refusal .number) (s .number), (shown-most (told .report .refusal .place) (s .place), tt)))) in
+          let p = told .report .refusal .place in
+          let w = line-most (shown (e .id) ∷ refusedWord ∷ shown (told .report .refusal .number) ∷ shown (p .row) ∷ shown (p .column) ∷ shown (p .bad) ∷ [])
+          (shown-most (e .id) id-few, (omega arith, (shown-most (told .report .refusal .number) (s .number), (shown-most (p .row) (s .row), (shown-most (p .column) (s .column), (shown-most (p .bad) (s .bad), tt)))))) in
           rw (outcome-refused (e .id) (e .rows) (e .cols) told (eqb-false (told .report .refusal .number) 0 x)) (omega (arith, w))
 
 -- ---- line numbers

@@ -1,18 +1,17 @@
 -- What the surveys of any text are, and what `split` says of each: `surveys`, at the end. Assumes nothing.
 use mathlib.Core.Path.{_≡_, refl, sym, ap, subst, _∙_}
-use mathlib.Core.Bool.{Bool, true, false, true≢false}
+use mathlib.Core.Bool.{Bool, true, false}
 use mathlib.Core.Logic.{_↔_, _⊎_, inl, inr, ⊎-elim}
 use mathlib.Core.List.{List, [], _∷_, _++_, List·Memᴰ, List·Memᴰ·not-nil, List·Memᴰ·cases-cons}
-use Prim.Native.Nat.{ℕ, _-_, _*_, _<_}
+use Prim.Native.Nat.{ℕ, _-_, _*_}
 use native.Mathlib.Omega.{arith}
-use borrow.Author.Tests.{ltb-true, ltb-false}
-use lib.Dec.{ltb}
-use lib.Ieee.{Float, nan, binary64}
-use lib.Ieee.Scale.{finite}
-use lib.ListN.{length, getD}
+use borrow.Author.Tests.{eqb-true, eqb-false}
+use lib.Dec.{eqb}
+use lib.Ieee.{Float, binary64}
+use lib.ListN.{length}
 use Rattle.method.specs.Work.{work}
-use Rattle.method.specs.Checks.{refusal, firstBad}
-use Rattle.method.specs.Checks.Readings.{BadReading, FirstBadAt, Searched, firstBad-searched}
+use Rattle.method.specs.Checks.{Place, badReadings, refusal}
+use Rattle.method.specs.Checks.Readings.{AllGood, BadReading, FirstBad, first-bad, none-bad, good-or-bad}
 use Rattle.method.specs.Report.{refused}
 use Rattle.method.specs.Outcome.{Outcome, outcomeOf, plainOutcome, accepted}
 use Rattle.method.specs.Outcome.Refused.{accepted-number}
@@ -40,12 +39,18 @@ outcomeFor s = plainOutcome binary64 (s .entry .rows) (s .entry .cols) defaults 
 abbrev pub number : Survey → ℕ
 number s = outcomeFor s .report .refusal .number
 
-abbrev pub place : Survey → ℕ
+abbrev pub place : Survey → Place
 place s = outcomeFor s .report .refusal .place
 
--- every reading is finite
-abbrev pub AllFinite : List Float → Type 0
-AllFinite xs = (k : ℕ) → k < length xs → finite (getD xs k nan) ≡ true
+-- every reading is finite; one is not; which is the first that is not, and how many are not
+abbrev pub AllFinite : Survey → Type 0
+AllFinite s = AllGood (s .entry .cols) (s .entry .rows) (s .entry .cols) (s .readings)
+
+abbrev pub OneBad : Survey → Type 0
+OneBad s = BadReading (s .entry .cols) (s .entry .rows) (s .entry .cols) (s .readings)
+
+abbrev pub FirstOfBad : Survey → Place → Type 0
+FirstOfBad s p = FirstBad (s .entry .cols) (s .entry .rows) (s .entry .cols) (s .readings) p
 
 -- the outcome of an acceptance: the bidiagonal form, and then the walk
 abbrev pub splitOf : Survey → Outcome
@@ -57,9 +62,11 @@ acceptedText s =
     reportText (s .entry .id) (splitOf s .report)
     ++ rowsText (s .entry .rows) (s .entry .cols) (splitOf s .held .matrix)
 
--- `id refused 8 place`
-abbrev pub refusedAt : Survey → ℕ → Bytes
-refusedAt s p = lineText (shown (s .entry .id) ∷ refusedWord ∷ shown 8 ∷ shown p ∷ [])
+-- `id refused 8 row column count`
+abbrev pub refusedAt : Survey → Place → Bytes
+refusedAt s p =
+    lineText
+    (shown (s .entry .id) ∷ refusedWord ∷ shown 8 ∷ shown (p .row) ∷ shown (p .column) ∷ shown (p .bad) ∷ [])
 
 -- What holds of a survey of a text.
 pub record Judged (s : Survey) : Type 0 where
@@ -69,11 +76,12 @@ pub record Judged (s : Survey) : Type 0 where
   -- it is accepted or refused by 8, and by no other number
   pub numbers : (number s ≡ 0) ⊎ (number s ≡ 8)
   -- accepted exactly when every reading is finite; the report and the rows are printed then
-  pub accepted-when : (number s ≡ 0) ↔ AllFinite (s .readings)
+  pub accepted-when : (number s ≡ 0) ↔ AllFinite s
   pub accepted-printed : number s ≡ 0 → surveyText s ≡ acceptedText s
-  -- refused by 8 exactly when a reading is not; the line with the first such reading's place is printed then
-  pub refused-when : (number s ≡ 8) ↔ BadReading (s .readings)
-  pub refused-place : number s ≡ 8 → FirstBadAt (s .readings) (place s)
+  -- refused by 8 exactly when a reading is not; the line with the first such reading's row and column, and with how
+  -- many there are, is printed then
+  pub refused-when : (number s ≡ 8) ↔ OneBad s
+  pub refused-place : number s ≡ 8 → FirstOfBad s (place s)
   pub refused-printed : number s ≡ 8 → surveyText s ≡ refusedAt s (place s)
 
 -- ---- every survey of a text is a table of its sizes
@@ -126,13 +134,13 @@ module _ (s : Survey) (z : Sized s) where
   abbrev xs : List Float
   xs = s .readings
 
-  not-both : AllFinite xs → BadReading xs → ⊥
-  not-both all b = true≢false (sym (all (b .at) (b .inside)) ∙ b .bad)
+  not-both : AllFinite s → OneBad s → ⊥
+  not-both = good-or-bad (s .entry .cols) (s .entry .rows) (s .entry .cols) xs
 
   fits : Table (s .entry .rows) (s .entry .cols) xs
   fits = table (s .entry) xs (z .0) (z .1)
 
-  judged-finite : AllFinite xs → Judged s
+  judged-finite : AllFinite s → Judged s
   unfolding surveyText
   judged-finite all =
       let o : outcomeFor s ≡ splitOf s = accepts (s .entry .rows) (s .entry .cols) xs fits all in
@@ -150,15 +158,19 @@ module _ (s : Survey) (z : Sized s) where
         refused-printed = λ e. absurd (omega (arith, e, n));
       }
 
-  judged-bad : (p : ℕ) → FirstBadAt xs p → Judged s
+  abbrev found : Place
+  found = badReadings (s .entry .cols) (s .entry .rows) (s .entry .cols) xs
+
+  judged-bad : ¬ (found .bad ≡ 0) → Judged s
   unfolding surveyText refusedText
-  judged-bad p b =
-      let bad : BadReading xs = record { at = p; inside = b .inside; bad = b .bad } in
-      let said = outcomeOf (refused (refusal 8 p)) (work xs [] []) in
-      let o : outcomeFor s ≡ said = refuses (s .entry .rows) (s .entry .cols) xs fits p b in
+  judged-bad h =
+      let first = first-bad (s .entry .cols) (s .entry .rows) (s .entry .cols) xs h in
+      let bad : OneBad s = record { row = found .row; column = found .column; there = first .there } in
+      let said = outcomeOf (refused (refusal 8 found)) (work xs [] []) in
+      let o : outcomeFor s ≡ said = refuses (s .entry .rows) (s .entry .cols) xs fits bad in
       let n : number s ≡ 8 = ap (λ (o : Outcome). o .report .refusal .number) o in
-      let w : place s ≡ p = ap (λ (o : Outcome). o .report .refusal .place) o in
-      let q : surveyText s ≡ refusedAt s p =
+      let w : place s ≡ found = ap (λ (o : Outcome). o .report .refusal .place) o in
+      let q : surveyText s ≡ refusedAt s found =
       ap (λ (o : Outcome). outcomeText (s .entry .id) (s .entry .rows) (s .entry .cols) o) o
       ∙ outcome-refused (s .entry .id) (s .entry .rows) (s .entry .cols) said (λ z. omega (arith, z)) in
       record {
@@ -168,22 +180,18 @@ module _ (s : Survey) (z : Sized s) where
         accepted-when = (λ e. absurd (omega (arith, e, n)), λ all. absurd (not-both all bad));
         accepted-printed = λ e. absurd (omega (arith, e, n));
         refused-when = (λ _. bad, λ _. n);
-        refused-place = λ _. rw w b;
-        refused-printed = λ _. q ∙ ap (λ (k : ℕ). refusedAt s k) (sym w);
+        refused-place = λ _. rw w first;
+        refused-printed = λ _. q ∙ ap (λ (p : Place). refusedAt s p) (sym w);
       }
 
   judged : Judged s
-  judged = go (ltb (firstBad xs) (length xs)) refl (firstBad-searched xs)
+  judged = go (eqb (found .bad) 0) refl
     where
-      go : (b : Bool) → ltb (firstBad xs) (length xs) ≡ b → Searched xs (firstBad xs) → Judged s
-      go true e f =
-          let i = ltb-true (firstBad xs) (length xs) e in
-          judged-bad (firstBad xs) (record { inside = i; bad = f .bad i; before = f .before })
-      go false e f =
-          let i = ltb-false (firstBad xs) (length xs) e in
-          judged-finite (λ k h. f .before k (omega arith))
+      go : (b : Bool) → eqb (found .bad) 0 ≡ b → Judged s
+      go true e = judged-finite (none-bad (s .entry .cols) (s .entry .rows) (s .entry .cols) xs (eqb-true _ 0 e) .1)
+      go false e = judged-bad (eqb-false _ 0 e)
 
 -- Of any text t and any survey s of it: s is a table of its sizes, and it is accepted where every reading is finite and
--- refused by 8, with the first bad reading's place, where one is not.
+-- refused by 8, with the first bad reading's row and column and how many there are, where one is not.
 pub surveys : (t : Bytes) (s : Survey) → SurveyIn t s → Judged s
 surveys t s m = judged s (text-sized t s m)

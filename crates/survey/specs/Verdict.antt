@@ -1,26 +1,25 @@
 -- What the plain call at default settings can say of a survey: it accepts, or it refuses by 8 with the place of the
--- first reading that is not finite. Its numbers have few digits. Assumes nothing.
+-- first reading that is not finite and how many are not. Its numbers have few digits. Assumes nothing.
 use mathlib.Core.Path.{_≡_, refl, sym, subst, _∙_}
 use mathlib.Core.Bool.{Bool, true, false, true≢false, false≢true}
 use mathlib.Core.Logic.{⊎-elim}
 use mathlib.Core.List.{List, []}
-use Prim.Native.Nat.{ℕ, _+_, _*_, _<_, _≤_}
+use Prim.Native.Nat.{ℕ, _*_, _<_, _≤_}
 use native.Mathlib.Omega.{arith}
 use native.Mathlib.Nat.{mul-le-mul}
 use borrow.Author.Tests.{eqb-true, eqb-false}
 use lib.Dec.{eqb}
-use lib.Ieee.{Float, nan, binary64, ofBits, lt}
-use lib.Ieee.Scale.{finite}
-use lib.ListN.{length, getD}
+use lib.Ieee.{Float, binary64, ofBits, lt}
+use lib.ListN.{length}
 use Rattle.method.specs.Work.{Work, work}
-use Rattle.method.specs.Checks.{Refusal, refusal, refusalOf}
+use Rattle.method.specs.Checks.{Place, badReadings, Refusal, refusal, refusalOf}
 use Rattle.method.specs.Report.{Report, refused}
 use Rattle.method.specs.Outcome.{Outcome, outcomeOf, plainOutcome, accepted}
 use Rattle.method.specs.Defaults.{defaults, defaultTolerance, defaultAbsolute, defaultFloor}
 use Rattle.method.specs.Outcome.Reports.{accepted-true, card-most}
-use Rattle.method.specs.Checks.Readings.{FirstBadAt, BadReading, firstBad-at}
+use Rattle.method.specs.Checks.Readings.{AllGood, BadReading, bad-count, bad-most, good-or-bad}
 use Rattle.method.specs.Checks.First.{None}
-use Rattle.method.specs.Checks.Table.{NoSize, TooLarge, OverLimit, UnfitBounds, lengthMeanings, clear, eight-given, numbers-few, place}
+use Rattle.method.specs.Checks.Table.{NoSize, TooLarge, OverLimit, UnfitBounds, lengthMeanings, clear, eight-given, eight-found, numbers-few, true-place}
 use Rattle.method.specs.Outcome.Refused.{refused-outcome, accepted-outcome}
 use Rattle.method.specs.Lengths.{outcome-lengths}
 use Rattle.survey.specs.Code.{Small}
@@ -43,15 +42,27 @@ module _ (rows cols : ℕ) (xs : List Float) (t : Table rows cols xs) where
   abbrev said : Report
   said = plainOutcome binary64 rows cols defaults xs .report
 
-  few : length xs ≤ 2304
-  few = let v : rows * cols ≤ 48 * 48 = mul-le-mul (t .rows-most) (t .cols-most) in omega (arith, t .size)
+  -- row, column and count of the bad readings
+  abbrev at : Place
+  at = why .place
 
-  place-few : why .place < 2304 + 1
+  few : rows * cols ≤ 48 * 48
+  few = mul-le-mul (t .rows-most) (t .cols-most)
+
+  place-few : (at .row < 1000000) × (at .column < 1000000) × (at .bad < 1000000)
   place-few = go (eqb (why .number) 8) refl
     where
-      go : (b : Bool) → eqb (why .number) 8 ≡ b → why .place < 2304 + 1
-      go true e = omega (arith, few, place false rows cols defaults given .eight (eqb-true (why .number) 8 e) .inside)
-      go false e = omega (arith, place false rows cols defaults given .other (eqb-false (why .number) 8 e))
+      go : (b : Bool) → eqb (why .number) 8 ≡ b → (at .row < 1000000) × (at .column < 1000000) × (at .bad < 1000000)
+      go true e =
+          let f = true-place false rows cols defaults given .eight (eqb-true (why .number) 8 e) in
+          let count = f .count ∙ sym (bad-count cols rows cols xs) in (
+            omega (arith, f .there .row-in, t .rows-most),
+            omega (arith, f .there .column-in, t .cols-most),
+            omega (arith, count, bad-most cols rows cols xs, few),
+          )
+      go false e =
+          rw (true-place false rows cols defaults given .other (eqb-false (why .number) 8 e))
+          (omega arith, omega arith, omega arith)
 
   -- every number of the report has at most 6 digits
   pub small : Small said
@@ -63,7 +74,9 @@ module _ (rows cols : ℕ) (xs : List Float) (t : Table rows cols xs) where
           let k = card-most rows cols (t .rows-most) (t .cols-most) in
           subst (λ (o : Outcome). Small (o .report)) (sym (accepted-outcome binary64 false rows cols defaults given (eqb-true (why .number) 0 e))) record {
             number = omega (arith, a .number);
-            place = omega (arith, a .place);
+            row = rw (a .place) (omega arith);
+            column = rw (a .place) (omega arith);
+            bad = rw (a .place) (omega arith);
             passes = omega (arith, a .few, k);
             sweeps = omega (arith, a .few, a .each, k);
             drops = omega (arith, a .drops, k);
@@ -72,7 +85,9 @@ module _ (rows cols : ℕ) (xs : List Float) (t : Table rows cols xs) where
       go false e =
           subst (λ (o : Outcome). Small (o .report)) (sym (refused-outcome binary64 false rows cols defaults given (eqb-false (why .number) 0 e))) record {
             number = omega (arith, numbers-few false rows cols defaults given);
-            place = omega (arith, place-few);
+            row = place-few .0;
+            column = place-few .1;
+            bad = place-few .2;
             passes = omega arith;
             sweeps = omega arith;
             drops = omega arith;
@@ -102,21 +117,18 @@ module _ (rows cols : ℕ) (xs : List Float) (t : Table rows cols xs) where
   lengths-fit = (λ z. z (t .size), (λ z. false≢true (z .0), (λ z. false≢true (z .0), tt)))
 
   -- where every reading is finite the call accepts,
-  pub accepts : ((k : ℕ) → k < length xs → finite (getD xs k nan) ≡ true)
+  pub accepts : AllGood cols rows cols xs
       → plainOutcome binary64 rows cols defaults xs ≡ accepted binary64 false rows cols defaults given
   accepts all =
-      let no : BadReading xs → ⊥ = λ b. true≢false (sym (all (b .at) (b .inside)) ∙ b .bad) in
+      let no : BadReading cols rows cols xs → ⊥ = good-or-bad cols rows cols xs all in
       accepted-outcome binary64 false rows cols defaults given (clear false rows cols defaults given .1
       record { sizes = (fit-size, (fit-large, tt)); lengths = lengths-fit; settings = (fit-limit, (fit-bounds, tt)); readings = (no, tt) })
 
-  -- and where one is not, it refuses by 8 with the place of the first, and leaves the readings as they were
-  pub refuses : (p : ℕ) → FirstBadAt xs p
-      → plainOutcome binary64 rows cols defaults xs ≡ outcomeOf (refused (refusal 8 p)) given
-  refuses p b =
+  -- and where one is not, it refuses by 8 with what the search finds, and leaves the readings as they were
+  pub refuses : BadReading cols rows cols xs
+      → plainOutcome binary64 rows cols defaults xs ≡ outcomeOf (refused (refusal 8 (badReadings cols rows cols xs))) given
+  refuses b =
       let n : why .number ≡ 8 =
-      eight-given false rows cols defaults given (fit-size, (fit-large, tt)) lengths-fit (fit-limit, (fit-bounds, tt))
-      record { at = p; inside = b .inside; bad = b .bad } in
-      let f = place false rows cols defaults given .eight n in
-      let q : why .place ≡ p = sym (firstBad-at xs (why .place) (f .before) (f .inside) (f .bad)) ∙ firstBad-at xs p (b .before) (b .inside) (b .bad) in
-      let o = refused-outcome binary64 false rows cols defaults given (λ z. omega (arith, n, z)) in
-      rw (n, q) at o
+      eight-given false rows cols defaults given (fit-size, (fit-large, tt)) lengths-fit (fit-limit, (fit-bounds, tt)) b in
+      let q = eight-found false rows cols defaults given n in
+      rw q at (refused-outcome binary64 false rows cols defaults given (λ z. omega (arith, n, z)))

@@ -79,15 +79,17 @@ fn put_report(out: &mut [u8], at: usize, id: u64, report: Report) -> usize
     put(out, f, b"\n")
 }
 
-// The line of a survey that the call refuses: `id refused number place`.
+// The line of a survey that the call refuses: `id refused number row column count`.
 fn put_refused(out: &mut [u8], at: usize, id: u64, report: Report) -> usize
     ensures { λ r. ⌜ Wrote (now (out .entry)) at (refusedText id (reportOf report)) (now (out .exit)) r ⌝ }
 {
     let a = put_decimal(out, at, id);
     let b = put(out, a, b" refused");
     let c = put_field(out, b, report.refusal.number as u64);
-    let d = put_field(out, c, report.refusal.place as u64);
-    put(out, d, b"\n")
+    let d = put_field(out, c, report.refusal.place.row as u64);
+    let e = put_field(out, d, report.refusal.place.column as u64);
+    let f = put_field(out, e, report.refusal.place.bad as u64);
+    put(out, f, b"\n")
 }
 
 // What the call says of a survey, whose matrix are the first readings of m.

@@ -216,8 +216,8 @@ module _ (stride rows cols : ℕ) (b : List Float) where
       (badReadings stride rows cols b ≡ nowhere) × AllGood stride rows cols b
   none-bad e = ⊎-elim (λ n. (n .none, λ i j r c. n .good i j r c (inl r))) (λ s. absurd (s .some e)) found
 
-  -- a table has bad readings, or all are good
-  good-or-bad : AllGood stride rows cols b → BadReading stride rows cols b → ⊥
+  -- where all are good, none is bad
+  pub good-or-bad : AllGood stride rows cols b → BadReading stride rows cols b → ⊥
   good-or-bad all x = true≢false (sym (all (x .row) (x .column) (x .there .row-in) (x .there .column-in)) ∙ x .there .bad)
 
   -- the test for it says that there is a bad reading

@@ -1,7 +1,7 @@
 -- The table of rule 2.1 as theorems: what each number means, that the answer is the first of the list that applies and
 -- 0 where none does, the place that 8 carries, and what an acceptance tells. Assumes nothing.
 use mathlib.Core.Path.{_≡_, refl, ap}
-use mathlib.Core.Logic.{_↔_, _⊎_, inl, inr}
+use mathlib.Core.Logic.{_↔_, _⊎_, inl, inr, ⊎-elim}
 use mathlib.Core.Bool.{Bool, true, false}
 use mathlib.Core.List.{List, [], _∷_, _++_}
 use Prim.Native.Nat.{ℕ, _*_, _≤_, _<_}
@@ -213,44 +213,53 @@ module _ (kept : Bool) (rows cols : ℕ) (s : Settings) (w : Work) where
     λ h. ap (λ (p : Place). p .bad) (t .other h),
   )
 
-  reading-place : TruePlace (firstOf (readingChecks rows cols (w .matrix)))
-  reading-place = go (ltb 0 (found .bad)) refl
-    where
-      found : Place
-      found = badReadings cols rows cols (w .matrix)
+  -- what the search finds
+  abbrev found : Place
+  found = badReadings cols rows cols (w .matrix)
 
+  -- the refusal is 8 with what the search found, or it carries no place and is not 8
+  abbrev Ways : Refusal → Type 0
+  Ways r = ((r ≡ refusal 8 found) × (0 < found .bad)) ⊎ ((r .place ≡ nowhere) × (¬ (r .number ≡ 8)))
+
+  reading-ways : Ways (firstOf (readingChecks rows cols (w .matrix)))
+  reading-ways = go (ltb 0 (found .bad)) refl
+    where
       reading : Check
       reading = placed 8 (ltb 0 (found .bad)) found
 
-      go : (b : Bool) → ltb 0 (found .bad) ≡ b → TruePlace (firstOf (readingChecks rows cols (w .matrix)))
-      go true t =
-          let e : firstOf (readingChecks rows cols (w .matrix)) ≡ refusal 8 found = first-hit reading [] t in
-          let l = ltb-true 0 (found .bad) t in
-          rw e
-          record {
-            eight = λ e. first-bad cols rows cols (w .matrix) (λ z. omega (arith, l, z));
-            other = λ h. absurd (h refl);
-          }
+      go : (b : Bool) → ltb 0 (found .bad) ≡ b → Ways (firstOf (readingChecks rows cols (w .matrix)))
+      go true t = inl (first-hit reading [] t, ltb-true 0 (found .bad) t)
       go false t =
           let e : firstOf (readingChecks rows cols (w .matrix)) ≡ firstOf [] = first-miss reading [] t in
-          rw (e, first-none) record { eight = λ q. absurd (omega (arith, q)); other = λ h. refl }
+          rw (e, first-none) (inr (refl, λ z. omega (arith, z)))
 
-  pub true-place : TruePlace (refusalOf kept rows cols s w)
-  true-place = go (eqb (firstOf (before kept rows cols s w) .number) 0) refl
+  ways : Ways (refusalOf kept rows cols s w)
+  ways = go (eqb (firstOf (before kept rows cols s w) .number) 0) refl
     where
-      go :
-          (b : Bool) → eqb (firstOf (before kept rows cols s w) .number) 0 ≡ b →
-          TruePlace (refusalOf kept rows cols s w)
+      go : (b : Bool) → eqb (firstOf (before kept rows cols s w) .number) 0 ≡ b → Ways (refusalOf kept rows cols s w)
       go true e =
           rw
           (first-beyond (before kept rows cols s w) (readingChecks rows cols (w .matrix)) refl refl (eqb-true _ 0 e)
           {q = firstOf (readingChecks rows cols (w .matrix))} refl)
-          at reading-place
+          at reading-ways
       go false e =
-          let q = first-placeless 8 (before kept rows cols s w) (omega arith) refl in
           rw
           (← first-here (before kept rows cols s w) (readingChecks rows cols (w .matrix)) refl refl (eqb-false _ 0 e))
-          record { eight = λ z. absurd (q .1 z); other = λ h. q .0 }
+          (inr (first-placeless 8 (before kept rows cols s w) (omega arith) refl))
+
+  -- a refusal by 8 is what the search found
+  pub eight-found : refusalOf kept rows cols s w .number ≡ 8 → refusalOf kept rows cols s w ≡ refusal 8 found
+  eight-found n = ⊎-elim (λ x. x .0) (λ x. absurd (x .1 n)) ways
+
+  pub true-place : TruePlace (refusalOf kept rows cols s w)
+  true-place =
+      ⊎-elim
+      (λ x. rw (x .0) record {
+        eight = λ n. first-bad cols rows cols (w .matrix) (λ z. let some = x .1 in omega arith);
+        other = λ h. absurd (h refl);
+      })
+      (λ x. record { eight = λ n. absurd (x .1 n); other = λ h. x .0 })
+      ways
 
 -- ---- what an acceptance tells
 
