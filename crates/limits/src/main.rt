@@ -52,7 +52,9 @@ fn print_number(before: &[u8], number: usize) {
 fn print(name: &[u8], r: Report) {
     io::write_all(1, name);
     print_number(b": ", r.refusal.number as usize);
-    print_number(b" ", r.refusal.place);
+    print_number(b" ", r.refusal.place.row);
+    print_number(b" ", r.refusal.place.column);
+    print_number(b" ", r.refusal.place.bad);
     let word = r.word;
     print_word(word);
     print_number(b" ", r.tally.passes);

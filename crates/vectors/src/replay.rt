@@ -4,6 +4,7 @@ use crate::bits::same;
 use crate::stored::Answer;
 use crate::stored::Found;
 use crate::stored::Head;
+use crate::stored::answer_room;
 use crate::stored::begin;
 use crate::stored::number_in;
 use crate::stored::read_answer;
@@ -272,7 +273,7 @@ fn ordered_next(
     requires { ⌜ (length (now b) ≡ length (now b2)) × (length (now u) ≡ length (now u2))
         × (length (now v) ≡ length (now v2)) ⌝ }
 {
-    let mut answer = [0; 56];
+    let mut answer = answer_room();
     if !read_answer(&mut answer) {
         return Seen::Malformed(head.differ > 0);
     }
@@ -347,7 +348,7 @@ fn answered(
     requires { ⌜ (length (now b) ≡ length (now b2)) × (length (now u) ≡ length (now u2))
         × (length (now v) ≡ length (now v2)) ⌝ }
 {
-    let mut answer = [0; 56];
+    let mut answer = answer_room();
     if !read_answer(&mut answer) {
         return Seen::Malformed(head.differ > 0);
     }

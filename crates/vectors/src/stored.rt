@@ -35,8 +35,8 @@ pub(crate) struct Head {
     pub(crate) differ: u64,
 }
 
-// The words of a report as they are stored, which are seven: `words_of` lists them.
-pub(crate) type Answer = [u8; 56];
+// The words of a report as they are stored, which are nine: `words_of` lists them.
+pub(crate) type Answer = [u8; 72];
 
 // What was found where a head should be.
 pub(crate) enum Found {
@@ -50,6 +50,13 @@ fn head_room() -> [u8; 112]
     ensures { λ r. ⌜ 112 ≡ length r ⌝ }
 {
     [0; 112]
+}
+
+// Room for the words of an answer.
+pub(crate) fn answer_room() -> Answer
+    ensures { λ r. ⌜ 72 ≡ length r ⌝ }
+{
+    [0; 72]
 }
 
 // Room for the words of the longest list.
@@ -92,11 +99,13 @@ fn head_of(bytes: &[u8]) -> Head
 }
 
 // The words of a report, the number first: the one list of them.
-fn words_of(r: Report) -> [u64; 7] {
+fn words_of(r: Report) -> [u64; 9] {
     let word = r.word;
     [
         r.refusal.number as u64,
-        r.refusal.place as u64,
+        r.refusal.place.row as u64,
+        r.refusal.place.column as u64,
+        r.refusal.place.bad as u64,
         word.number(),
         r.tally.passes as u64,
         r.tally.sweeps as u64,
@@ -114,7 +123,7 @@ pub(crate) fn number_in(answer: &Answer) -> u64 {
 pub(crate) fn report_agrees(report: Report, answer: &Answer) -> bool {
     let words = words_of(report);
     let mut i = 0;
-    while i < 7 {
+    while i < 9 {
         if words[i] != word(answer, 8 * i) {
             return false;
         }
@@ -155,7 +164,7 @@ pub(crate) fn read_head() -> Found {
 
 // Reads the next answer; whether it is there.
 pub(crate) fn read_answer(answer: &mut Answer) -> bool {
-    io::read_full(0, answer) == 56
+    io::read_full(0, answer) == 72
 }
 
 // Fills the list from the next words, for which there is just the room; whether they are there.
