@@ -131,7 +131,8 @@ const SHORT_LIST: Fault = |run| run.values.truncate(1);
 const OVER_LIMIT: Fault = |run| run.settings.limit = 100_001;
 const BELOW_ZERO: Fault = |run| run.settings.tolerance = -1.0;
 const BAD_READING: Fault = |run| run.matrix[3] = f64::INFINITY;
-/// How many readings are good where the others are bad: not only those of the first row and column.
+/// How many readings stand before those that are bad at the end: of a 3 x 2 the first bad one is in row 1
+/// and column 1.
 const GOOD: usize = 3;
 const BAD_END: Fault = |run| {
     let others = run.matrix.iter_mut().skip(GOOD);

@@ -370,8 +370,8 @@ pub fn summary() -> String {
     format!("{right} texts compared, 0 differ; {wrong} wrong on purpose, {wrong} found\n")
 }
 
-/// A well-formed text with surveys of every kind; mostly small ones. One in sixteen has bad readings, but
-/// for those that are drawn so.
+/// A well-formed text with surveys of every kind; mostly small ones. One in sixteen is given bad readings;
+/// some others are drawn with them.
 fn any_surveys(draw: &mut Draw) -> Vec<u8> {
     let many = if draw.below(3) == 0 {
         1 + draw.below(8)
