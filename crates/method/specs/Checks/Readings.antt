@@ -1,5 +1,6 @@
--- The search for readings that are infinite or NaN: what is found of a table, whatever its stride. The place is that of a
--- bad reading, every reading before it, row by row, is good, and the count is the number of bad ones. Assumes nothing.
+-- The search for readings that are infinite or NaN: what is found of a table, whatever its stride. The place is that of
+-- a bad reading, every reading before it, row by row, is good, and the count is the number of bad ones. Assumes
+-- nothing.
 use mathlib.Core.Path.{_≡_, refl, sym, ap, _∙_}
 use mathlib.Core.Logic.{_⊎_, inl, inr, ⊎-elim}
 use mathlib.Core.Bool.{Bool, true, false, not, true≢false}
@@ -202,7 +203,8 @@ module _ (stride rows cols : ℕ) (b : List Float) where
           same k l r c e m false u =
               let d : l ≡ j = omega (arith, m, ltb-false l j u) in
               rw (e, d) t
-      go true t (inr s) = rw (looked-good i j x p t) (inr record { some = s .some; there = s .there; before = s .before })
+      go true t (inr s) =
+          rw (looked-good i j x p t) (inr record { some = s .some; there = s .there; before = s .before })
       go false t (inl n) =
           rw (looked-bad i j x p t, counted-first i j p (ap (λ (q : Place). q .bad) (n .none)))
           (inr record {
@@ -234,7 +236,11 @@ module _ (stride rows cols : ℕ) (b : List Float) where
   unfolding badReadings
   found =
       repeated-along (λ i p. Yet i 0 p) wholeRow rows (λ i p h y. one-row i p h y) nowhere
-      (inl record { none = refl; good = λ k l r c q. ⊎-elim (λ z. absurd (omega (arith, z))) (λ z. absurd (let w = z .1 in omega arith)) q })
+      (inl record {
+        none = refl;
+        good = λ k l r c q.
+            ⊎-elim (λ z. absurd (omega (arith, z))) (λ z. absurd (let w = z .1 in omega arith)) q;
+      })
 
   -- the count is the number of bad readings
   pub bad-count : badReadings stride rows cols b .bad ≡ badOfAll stride rows cols b
@@ -247,7 +253,9 @@ module _ (stride rows cols : ℕ) (b : List Float) where
       nowhere 0 refl
 
   -- where it is not 0, the place is the first one's,
-  pub first-bad : ¬ (badReadings stride rows cols b .bad ≡ 0) → FirstBad stride rows cols b (badReadings stride rows cols b)
+  pub first-bad :
+      ¬ (badReadings stride rows cols b .bad ≡ 0) →
+      FirstBad stride rows cols b (badReadings stride rows cols b)
   first-bad h =
       ⊎-elim (λ n. absurd (h (ap (λ (q : Place). q .bad) (n .none))))
       (λ s. record { there = s .there; before = s .before; count = bad-count; some = one-or-more _ h })
@@ -261,7 +269,9 @@ module _ (stride rows cols : ℕ) (b : List Float) where
 
   -- where all are good, none is bad
   pub good-or-bad : AllGood stride rows cols b → BadReading stride rows cols b → ⊥
-  good-or-bad all x = true≢false (sym (all (x .row) (x .column) (x .there .row-in) (x .there .column-in)) ∙ x .there .bad)
+  good-or-bad all x =
+      let at = x .there in
+      true≢false (sym (all (x .row) (x .column) (at .row-in) (at .column-in)) ∙ at .bad)
 
   -- the test for it says that there is a bad reading
   pub bad-reading : Says (ltb 0 (badReadings stride rows cols b .bad)) (BadReading stride rows cols b)
