@@ -102,9 +102,10 @@ class Finding:
     def verdict(self):
         """The answer in a surveyor's words. `Passes` are his walks, so what the method makes is told as turns."""
         if self.answer.number == BAD:
-            bad = sum(not math.isfinite(x) for row in self.rows for x in row)
-            return (f"Refused, number 8: the reading of {self.culprit()} is no finite number "
-                    f"(place {self.answer.place}{f', the first of {bad}' if bad > 1 else ''}).")
+            station, column, bad = self.names[self.answer.row], self.answer.column, self.answer.bad
+            more = f", and {bad - 1} more" if bad > 1 else ""
+            return (f"Station {station}, pass {column}: no usable reading{more}. Refused, number 8: {bad} of "
+                    f"{count(self.m * self.n, 'reading')} {'is' if bad == 1 else 'are'} infinite or no number.")
         if self.answer.number == NOT_FINITE:
             return ("Refused, number 13: a value is not finite. "
                     f"The largest reading, that of {self.culprit()}, is too large.")
@@ -114,15 +115,21 @@ class Finding:
         return "Settled: the split is final."
 
     def culprit(self):
-        """The station and pass of the reading that a refusal is about: the bad one, or else the largest."""
-        flat = [abs(x) for row in self.rows for x in row]
-        i, j = divmod(self.answer.place if self.answer.number == BAD else flat.index(max(flat)), self.n)
+        """The station and pass of the reading that a refusal is about: the first bad one, or else the largest."""
+        if self.answer.number == BAD:
+            i, j = self.answer.row, self.answer.column
+        else:
+            every = ((i, j) for i in range(self.m) for j in range(self.n))
+            i, j = max(every, key=lambda at: abs(self.rows[at[0]][at[1]]))
         return f"station {self.names[i]} on pass {j}"
 
     def remedy(self):
         """What to do about a refusal."""
         what = "Nothing was split." if self.answer.number == BAD else "There is no split to show."
-        return f"{what} Read {self.culprit()} again, or leave the station or the pass out."
+        which, left = self.culprit(), "the station or the pass"
+        if self.answer.bad > 1:
+            which, left = f"{which} and the {count(self.answer.bad - 1, 'other')}", "their stations or passes"
+        return f"{what} Read {which} again, or leave {left} out."
 
     def confirmed(self):
         """Why a run that stopped is shown."""

@@ -5,10 +5,12 @@ import pathlib
 from tables import Fault
 
 LIBRARY = pathlib.Path(__file__).resolve().parent.parent / "target/native/libmerotunki.so"
+LAYOUT = 2  # of the structs below; the library says which one it has
 
 
 class Answer(ctypes.Structure):
-    _fields_ = [(name, ctypes.c_uint64) for name in ("number", "place", "word", "passes", "sweeps", "drops", "range")]
+    _fields_ = [(name, ctypes.c_uint64)
+                for name in ("number", "row", "column", "bad", "word", "passes", "sweeps", "drops", "range")]
 
 
 class Choice(ctypes.Structure):
@@ -21,8 +23,9 @@ def library():
     if not LIBRARY.exists():
         raise Fault("the library is not built yet: run samples/build")
     loaded, choice = ctypes.CDLL(str(LIBRARY)), Choice()
-    if not hasattr(loaded, "merotunki_ordered_svd"):
-        raise Fault("the library is an older one: run samples/build again")
+    loaded.merotunki_layout.restype = ctypes.c_uint64
+    if loaded.merotunki_layout() != LAYOUT:
+        raise Fault("the library is not of this version: run samples/build again")
     loaded.merotunki_defaults(ctypes.byref(choice))
     return loaded, [kind(getattr(choice, name)) for name, kind in Choice._fields_]
 

@@ -64,7 +64,8 @@ def bad_reading():
     rule = RULE.format(error=0.03) + listed("fan", fan) + listed("velocity", velocity)
     rule += "#   and the reading of station 5 on pass 2 is nan\n"
     write("bad-reading", 103, "A roadway with a reading that failed",
-          ["At station 5 on pass 2 the instrument gave no number (nan). The split refuses the table with number 8, place 27."],
+          ["At station 5 on pass 2 the instrument gave no number (nan). The split refuses the table with number 8:",
+           "it names station 5 and pass 2 and says that 1 reading is bad."],
           rule, table)
     kept = [i for i in range(8) if i != 5]
     write("bad-reading-left-out", 104, "The same roadway with station 5 left out",

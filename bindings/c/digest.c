@@ -3,9 +3,11 @@
  * they print the same numbers, they gave the same bits, all NaNs alike.
  *
  * Tables have every shape up to 48 x 48, small ones more often; readings are ordinary, tiny, huge, whole, zeros among
- * them, repeated rows, or any bits; limits, credits and bounds are the defaults or drawn, and some calls are unfit. */
+ * them, repeated rows, any bits, or infinities and NaNs among them; limits, credits and bounds are the defaults or
+ * drawn, and some calls are unfit. */
 #include "merotunki.h"
 
+#include <math.h>
 #include <stdio.h>
 #include <string.h>
 
@@ -32,6 +34,7 @@ static double reading(size_t kind) {
         case 3: return below(3) ? x : (below(2) ? 0.0 : -0.0);
         case 4: return memcpy(&x, &bits, sizeof x), x;
         case 5: return x * 1e-21;
+        case 6: return below(30) ? x : below(2) ? NAN : x * INFINITY;
         default: return 3 + x;
     }
 }
@@ -49,7 +52,8 @@ static void list(const double *a, size_t n) {
     }
 }
 static void told(const merotunki_answer *a) {
-    word(a->number), word(a->place), word(a->word), word(a->passes), word(a->sweeps), word(a->drops), word(a->range);
+    word(a->number), word(a->row), word(a->column), word(a->bad);
+    word(a->word), word(a->passes), word(a->sweeps), word(a->drops), word(a->range);
 }
 
 int main(void) {
@@ -57,7 +61,7 @@ int main(void) {
     static double ordered_u[MOST * MOST], ordered_v[MOST * MOST], values[MOST];
     size_t accepted = 0, ordered = 0;
     for (int k = 0; k < TABLES; k++) {
-        size_t most = below(8) ? 12 : MOST, rows = 1 + below(most), cols = 1 + below(most), kind = below(9);
+        size_t most = below(8) ? 12 : MOST, rows = 1 + below(most), cols = 1 + below(most), kind = below(10);
         size_t bl = rows * cols, ul = rows * rows, vl = cols * cols, wl = rows < cols ? rows : cols;
         merotunki_choice s;
         merotunki_defaults(&s);

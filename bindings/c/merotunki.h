@@ -18,7 +18,7 @@
  *  11  the list of values has not as many entries as the smaller of rows and columns
  *   6  the limit is above 100,000 or the credit above 1,000
  *   7  tolerance or absolute is below zero, infinite or NaN (-0 is allowed), or floor is not above zero or not finite
- *   8  a reading is infinite or NaN; `place` is the first one's index in the matrix
+ *   8  a reading is infinite or NaN: `row` and `column` are the first one's station and pass, `bad` counts them all
  *  12  the run stopped, so that its values are not final
  *  13  the run settled, and a value on the diagonal is infinite or NaN
  * 11, 12 and 13 are merotunki_ordered_svd's alone. 12 and 13 are the one exception to what a refusal writes: they come
@@ -33,8 +33,8 @@
  *
  * MEMORY AND THREADS. No heap, no global state, no locks, no files; of other libraries memcpy and memset alone (on
  * iOS bzero) are called. Several threads may call at once, each on buffers of its own. merotunki_ordered_svd uses less
- * than 3,072 bytes of stack, every other call less than 2,048: measured, at most 2,608 and 1,712 on 64-bit Arm, 2,704
- * and 1,856 on x86-64. On 64-bit Arm x18 is left alone: a caller built with a shadow call stack keeps it.
+ * than 3,072 bytes of stack, every other call less than 2,048: measured, at most 2,624 and 1,728 on 64-bit Arm, 2,736
+ * and 1,888 on x86-64. On 64-bit Arm x18 is left alone: a caller built with a shadow call stack keeps it.
  *
  * HOW THE CALLS ARE MADE. A slice is a pointer and a length, one after the other. An answer or choice is written where
  * the first argument points, and that pointer is handed back. On x86-64 (System V, so not Windows) this is also how C
@@ -54,8 +54,8 @@ extern "C" {
 
 /* The version of library and header, and the number of the layout of the structs below. The layout rises whenever a
  * struct changes, so that a program built for one is not run on another. */
-#define MEROTUNKI_VERSION "0.3.0"
-#define MEROTUNKI_LAYOUT 1
+#define MEROTUNKI_VERSION "0.4.0"
+#define MEROTUNKI_LAYOUT 2
 
 /* The largest number of rows and of columns, and the largest limit and credit. */
 #define MEROTUNKI_MOST 48
@@ -71,11 +71,13 @@ extern "C" {
 #define MEROTUNKI_U 0
 #define MEROTUNKI_V 1
 
-/* What a split answers. In a refusal all but number and place is 0; with 12 and 13 all but number and place is the
- * run's. */
+/* What a split answers. row, column and bad are 0 but with number 8. The words after them are 0 in a refusal; with 12
+ * and 13 they are the run's. */
 typedef struct merotunki_answer {
     uint64_t number; /* 0 accepted, 1 to 8 and 11 to 13 refused */
-    uint64_t place;  /* for number 8 the index of the first bad reading, else 0 */
+    uint64_t row;    /* station of the first reading that is infinite or NaN, row by row, counted from 0 */
+    uint64_t column; /* its pass, counted from 0 */
+    uint64_t bad;    /* how many such readings the whole matrix has, the first one too */
     uint64_t word;   /* MEROTUNKI_NONE, MEROTUNKI_SETTLED or MEROTUNKI_STOPPED */
     uint64_t passes; /* of the walk: each is a sweep or a drop */
     uint64_t sweeps;
@@ -99,7 +101,7 @@ typedef struct merotunki_choice {
 } merotunki_choice;
 
 /* Does not compile where the structs or the lengths are laid out otherwise than the library has them. */
-typedef char merotunki_answer_has_56_bytes[sizeof(merotunki_answer) == 56 ? 1 : -1];
+typedef char merotunki_answer_has_72_bytes[sizeof(merotunki_answer) == 72 ? 1 : -1];
 typedef char merotunki_choice_has_40_bytes[sizeof(merotunki_choice) == 40 ? 1 : -1];
 typedef char merotunki_part_has_16_bytes[sizeof(merotunki_part) == 16 ? 1 : -1];
 typedef char merotunki_length_has_8_bytes[sizeof(size_t) == 8 && sizeof(double) == 8 ? 1 : -1];

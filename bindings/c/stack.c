@@ -103,14 +103,16 @@ static __attribute__((noinline)) size_t depth(void (*volatile call)(void), const
     return (size_t)(top - low);
 }
 
-/* The tables: 0 drawn, 1 zeros, 2 ones, 3 drawn with a last reading that is none, so that the call is refused. */
+/* The tables: 0 drawn, 1 zeros, 2 ones; and two that are refused: 3 drawn with a last reading that is none, 4 with none
+ * at all. */
 static void fill(int kind) {
     static uint64_t seed;
     for (size_t i = 0; i < rows * columns; i++) {
         seed = seed * 6364136223846793005u + 1442695040888963407u;
         matrix[i] = kind == 1 ? 0.0 : kind == 2 ? 1.0 : (double)(seed >> 11) / 562949953421312.0 - 8.0;
     }
-    if (kind == 3 && rows * columns > 0) matrix[rows * columns - 1] = NAN;
+    for (size_t i = 0; i < rows * columns; i++)
+        if (kind == 4 || (kind == 3 && i + 1 == rows * columns)) matrix[i] = NAN;
     for (size_t i = 0; i < ENTRIES; i++) u[i] = v[i] = i % (MOST + 1) == 0 ? 1.0 : 0.0;
     value = kind == 1 ? 5e-324 : kind == 2 ? -1.0 : 2.0;
 }
@@ -121,7 +123,7 @@ static void most(const char *name, void (*call)(void), int reports) {
     size_t accepted = 0, refused = 0;
     for (size_t s = 0; s < sizeof shapes / sizeof *shapes; s++)
         for (size_t l = 0; l < 3; l++)
-            for (int kind = 0; kind < 4; kind++) {
+            for (int kind = 0; kind < 5; kind++) {
                 rows = shapes[s][0], columns = shapes[s][1], limit = limits[l];
                 fill(kind);
                 size_t empty = depth(call, &none);

@@ -109,10 +109,11 @@ static int all_alike(const double *a, const double *b, size_t length) {
     return 1;
 }
 
-/* The call refuses by that number and place, all else in its answer is 0, and nothing that it was lent changes. */
+/* The call refuses by that number with that row, column and count of bad readings, all else in its answer is 0, and
+ * nothing that it was lent changes. */
 static job now, before;
-static int refused(merotunki_answer *(*call)(job *), uint64_t number, uint64_t place) {
-    merotunki_answer wanted = {.number = number, .place = place};
+static int refused(merotunki_answer *(*call)(job *), uint64_t number, uint64_t row, uint64_t column, uint64_t bad) {
+    merotunki_answer wanted = {.number = number, .row = row, .column = column, .bad = bad};
     for (size_t i = 0; i < LONG; i++) { /* U, V and the list are never examined: no numbers at all */
         now.u[i] = of_bits(UINT64_C(0x7FF8000000000000) + i);
         now.v[i] = of_bits(UINT64_C(0xFFF0000000000001) + i);
@@ -142,60 +143,59 @@ static void unfit(unsigned n) {
 /* A 4 x 3 job, changed so, is refused so by each call that has the number. */
 static int in_full(unsigned number) { return number != 11; }
 static int in_plain(unsigned number) { return number != 11 && number != 4 && number != 5; }
-#define REFUSED(number, place, change)                              \
-    do {                                                            \
-        prepare(&now, 4, 3);                                        \
-        change;                                                     \
-        CHECK(refused(ordered, number, place));                     \
-        if (in_full(number)) CHECK(refused(full, number, place));   \
-        if (in_plain(number)) CHECK(refused(plain, number, place)); \
+#define REFUSED_AT(number, row, column, bad, change)                           \
+    do {                                                                       \
+        prepare(&now, 4, 3);                                                   \
+        change;                                                                \
+        CHECK(refused(ordered, number, row, column, bad));                     \
+        if (in_full(number)) CHECK(refused(full, number, row, column, bad));   \
+        if (in_plain(number)) CHECK(refused(plain, number, row, column, bad)); \
     } while (0)
+#define REFUSED(number, change) REFUSED_AT(number, 0, 0, 0, change)
+#define BAD(row, column, bad, change) REFUSED_AT(8, row, column, bad, change)
 
 static void refusals(void) {
-    REFUSED(1, 0, now.rows = 0);
-    REFUSED(1, 0, now.columns = 0);
-    REFUSED(1, 0, now.rows = 0; now.matrix_length = 0; now.u_length = 0);
-    REFUSED(1, 0, now.rows = 49; now.columns = 0);
-    REFUSED(2, 0, prepare(&now, 49, 3));
-    REFUSED(2, 0, prepare(&now, 3, 49));
-    REFUSED(2, 0, now.rows = SIZE_MAX);
-    REFUSED(2, 0, now.rows = (size_t)1 << 32; now.columns = (size_t)1 << 32; now.matrix_length = 0);
-    REFUSED(3, 0, now.matrix_length = 11);
-    REFUSED(3, 0, now.matrix_length = 13);
-    REFUSED(3, 0, now.matrix_length = 0);
-    REFUSED(4, 0, now.u_length = 15);
-    REFUSED(4, 0, now.u_length = 17);
-    REFUSED(4, 0, now.u_length = 9; now.v_length = 16);
-    REFUSED(5, 0, now.v_length = 8);
-    REFUSED(5, 0, now.v_length = 10);
-    REFUSED(11, 0, now.values_length = 2);
-    REFUSED(11, 0, now.values_length = 4);
-    REFUSED(11, 0, now.values_length = 0);
-    REFUSED(11, 0, now.values_length = MOST + 2);
-    REFUSED(11, 0, prepare(&now, 3, 4); now.values_length = 4);
-    REFUSED(6, 0, now.limit = 100001);
-    REFUSED(6, 0, now.limit = SIZE_MAX);
-    REFUSED(6, 0, now.credit = 1001);
-    REFUSED(6, 0, now.credit = SIZE_MAX);
-    REFUSED(7, 0, now.tolerance = -5e-324);
-    REFUSED(7, 0, now.tolerance = INFINITY);
-    REFUSED(7, 0, now.tolerance = NAN);
-    REFUSED(7, 0, now.absolute = -1.0);
-    REFUSED(7, 0, now.absolute = INFINITY);
-    REFUSED(7, 0, now.absolute = NAN);
-    REFUSED(7, 0, now.floor = 0.0);
-    REFUSED(7, 0, now.floor = -0.0);
-    REFUSED(7, 0, now.floor = -1.0);
-    REFUSED(7, 0, now.floor = INFINITY);
-    REFUSED(7, 0, now.floor = NAN);
-    REFUSED(8, 0, now.matrix[0] = NAN);
-    REFUSED(8, 11, now.matrix[11] = INFINITY);
-    REFUSED(8, 5, now.matrix[5] = -INFINITY; now.matrix[7] = NAN);
-    /* the order: whatever else is unfit, the first number is given */
+    REFUSED(1, now.rows = 0);
+    REFUSED(1, now.columns = 0);
+    REFUSED(1, now.rows = 0; now.matrix_length = 0; now.u_length = 0);
+    REFUSED(1, now.rows = 49; now.columns = 0);
+    REFUSED(2, prepare(&now, 49, 3));
+    REFUSED(2, prepare(&now, 3, 49));
+    REFUSED(2, now.rows = SIZE_MAX);
+    REFUSED(2, now.rows = (size_t)1 << 32; now.columns = (size_t)1 << 32; now.matrix_length = 0);
+    REFUSED(3, now.matrix_length = 11);
+    REFUSED(3, now.matrix_length = 13);
+    REFUSED(3, now.matrix_length = 0);
+    REFUSED(4, now.u_length = 15);
+    REFUSED(4, now.u_length = 17);
+    REFUSED(4, now.u_length = 9; now.v_length = 16);
+    REFUSED(5, now.v_length = 8);
+    REFUSED(5, now.v_length = 10);
+    REFUSED(11, now.values_length = 2);
+    REFUSED(11, now.values_length = 4);
+    REFUSED(11, now.values_length = 0);
+    REFUSED(11, now.values_length = MOST + 2);
+    REFUSED(11, prepare(&now, 3, 4); now.values_length = 4);
+    REFUSED(6, now.limit = 100001);
+    REFUSED(6, now.limit = SIZE_MAX);
+    REFUSED(6, now.credit = 1001);
+    REFUSED(6, now.credit = SIZE_MAX);
+    REFUSED(7, now.tolerance = -5e-324);
+    REFUSED(7, now.tolerance = INFINITY);
+    REFUSED(7, now.tolerance = NAN);
+    REFUSED(7, now.absolute = -1.0);
+    REFUSED(7, now.absolute = INFINITY);
+    REFUSED(7, now.absolute = NAN);
+    REFUSED(7, now.floor = 0.0);
+    REFUSED(7, now.floor = -0.0);
+    REFUSED(7, now.floor = -1.0);
+    REFUSED(7, now.floor = INFINITY);
+    REFUSED(7, now.floor = NAN);
+    /* the order: whatever else is unfit, the first number is given; bad readings are told with 8 alone */
     static const unsigned order[] = {1, 2, 3, 4, 5, 11, 6, 7, 8};
     for (size_t first = 0; first < sizeof order / sizeof *order; first++) {
         for (size_t other = first + 1; other < sizeof order / sizeof *order; other++) {
-            REFUSED(order[first], 0, unfit(order[first]); unfit(order[other]));
+            REFUSED(order[first], unfit(order[first]); unfit(order[other]));
         }
     }
     /* a pointer with length 0 is not followed */
@@ -219,7 +219,47 @@ static void refusals(void) {
     CHECK(full(&now)->number == 0 && now.answer.word == MEROTUNKI_STOPPED); /* nothing is below a bound of 0 */
     prepare(&now, 4, 3);
     now.u[3] = NAN, now.v[2] = INFINITY, now.matrix[12] = NAN; /* the entry after the table is not its own */
-    CHECK(full(&now)->number == 0 && isnan(now.matrix[12]));
+    CHECK(full(&now)->number == 0 && isnan(now.matrix[12]) && now.answer.bad == 0);
+}
+
+/* A reading that is bad: infinite, of either sign, or a NaN of some kind. */
+static double bad_one(size_t which) {
+    static const uint64_t patterns[] = {UINT64_C(0x7FF8000000000000), UINT64_C(0x7FF0000000000000),
+                                        UINT64_C(0xFFF0000000000000), UINT64_C(0x7FF0000000000001),
+                                        UINT64_C(0xFFFFFFFFFFFFFFFF)};
+    return of_bits(patterns[which % 5]);
+}
+
+/* Makes `now` a drawn table with a bad reading at `at` and at every step-th entry behind it, and says how many. */
+static size_t spoil(size_t r, size_t c, size_t at, size_t step) {
+    size_t bad = 0;
+    prepare(&now, r, c);
+    for (; at < r * c; at += step, bad++) now.matrix[at] = bad_one(at);
+    return bad;
+}
+
+/* Number 8 names station and pass of the first bad reading, and says how many there are in the whole table. */
+static void bad_readings(void) {
+    BAD(0, 0, 1, now.matrix[0] = NAN);
+    BAD(1, 2, 1, now.matrix[5] = -INFINITY);
+    BAD(3, 2, 1, now.matrix[11] = INFINITY);
+    BAD(1, 2, 2, unfit(8));
+    BAD(2, 1, 4, now.matrix[7] = INFINITY; now.matrix[8] = NAN; now.matrix[9] = -INFINITY; now.matrix[11] = NAN);
+    BAD(2, 1, 1, now.matrix[7] = NAN; now.matrix[12] = NAN); /* the entry after the table is not its own */
+    /* what is as large or as small as can be is no bad reading */
+    BAD(3, 0, 1, set(&now, (double[]){DBL_MAX, -DBL_MAX, 5e-324, -5e-324, -0.0, 0, 1, 1, 1, NAN, DBL_MAX, -DBL_MAX}));
+    static const size_t shapes[][2] = {{1, 1}, {1, 48}, {48, 1}, {3, 7}, {7, 3}, {48, 3}, {3, 48}};
+    for (size_t s = 0; s < sizeof shapes / sizeof *shapes; s++) {
+        const size_t r = shapes[s][0], c = shapes[s][1];
+        for (size_t i = 0; i < r; i++)
+            for (size_t j = 0; j < c; j++) {
+                size_t all;
+                BAD(i, j, 1, spoil(r, c, i * c + j, r * c)); /* alone */
+                BAD(i, j, all, all = spoil(r, c, i * c + j, 2));
+            }
+    }
+    BAD(47, 47, 1, spoil(48, 48, ENTRIES - 1, 1));
+    BAD(0, 0, 2304, spoil(48, 48, 0, 1));
 }
 
 static void known(void) {
@@ -534,6 +574,7 @@ static void threads(void) {
 int main(void) {
     settings_and_roots();
     refusals();
+    bad_readings();
     known();
     in_order();
     drawn_tables();

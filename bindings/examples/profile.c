@@ -53,7 +53,7 @@ int main(void) {
     merotunki_ordered_svd(&a, table, M * N, u, M * M, v, N * N, values, VALUES, M, N, c.limit, c.credit, c.tolerance,
                           c.absolute, c.floor);
     int stopped = a.number == 12, k = 0; /* in order the strongest is the first */
-    if (a.number != 0 && !stopped) return printf("refused by %d at %d\n", (int)a.number, (int)a.place), 1;
+    if (a.number != 0 && !stopped) return printf("refused by %d\n", (int)a.number), 1; /* split.c has the text of 8 */
     printf("%s, passes %d\n", stopped ? "stopped" : "settled", (int)a.passes);
     if (stopped) { /* nothing is in order: the run's values stand on the diagonal */
         for (int i = 0; i < VALUES; i++) values[i] = table[i * N + i];

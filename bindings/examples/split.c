@@ -11,7 +11,12 @@ int main(void) {
     merotunki_identity(u, 16, 4);
     merotunki_identity(v, 9, 3);
     merotunki_full_svd(&a, table, 12, u, 16, v, 9, 4, 3, c.limit, c.credit, c.tolerance, c.absolute, c.floor);
-    if (a.number != 0) return printf("refused by %d at %d\n", (int)a.number, (int)a.place), 1;
+    if (a.number == 8) { /* a reading is infinite or NaN */
+        printf("Station %d, pass %d: no usable reading", (int)a.row, (int)a.column);
+        if (a.bad > 1) printf(", and %d more", (int)a.bad - 1);
+        return puts("."), 1;
+    }
+    if (a.number != 0) return printf("refused by %d\n", (int)a.number), 1;
     printf("%s, passes %d\n", a.word == MEROTUNKI_SETTLED ? "settled" : "stopped", (int)a.passes);
     printf("values [%f, %f, %f]\n", table[0], table[4], table[8]);
     const double *row = u + merotunki_row(u, 16, v, 9, 4, 3, MEROTUNKI_U, 0).start;

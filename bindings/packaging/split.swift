@@ -12,8 +12,12 @@ merotunki_defaults(&c)
 merotunki_identity(&u, 16, 4)
 merotunki_identity(&v, 9, 3)
 merotunki_full_svd(&a, &table, 12, &u, 16, &v, 9, 4, 3, Int(c.limit), Int(c.credit), c.tolerance, c.absolute, c.floor)
+if a.number == 8 { // a reading is infinite or NaN
+    print("Station \(a.row), pass \(a.column): no usable reading" + (a.bad > 1 ? ", and \(a.bad - 1) more." : "."))
+    exit(1)
+}
 if a.number != 0 {
-    print("refused by \(a.number) at \(a.place)")
+    print("refused by \(a.number)")
     exit(1)
 }
 print(a.word == UInt64(MEROTUNKI_SETTLED) ? "settled, passes \(a.passes)" : "stopped, passes \(a.passes)")

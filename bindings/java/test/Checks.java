@@ -42,20 +42,30 @@ class Checks {
         check((r.word == Report.Word.SETTLED) == text.startsWith("settled"), "the word of " + text);
     }
 
+    // by any number but 8: no reading is named
+    static Refusal refused(Callable<?> call, int number, String what) throws Exception {
+        return refused(call, number, 0, 0, 0, what);
+    }
+
     // the refusal, or null where it was not refused
-    static Refusal refused(Callable<?> call, int number, int station, int pass, String what) throws Exception {
+    static Refusal refused(Callable<?> call, int number, int station, int pass, int bad, String what)
+            throws Exception {
         try {
             call.call();
             check(false, what + " is refused");
             return null;
         } catch (Refusal r) {
             boolean ran = number == Refusal.STOPPED || number == Refusal.VALUE;
-            check(r.number == number && r.station == station && r.pass == pass && r.getMessage().endsWith(".")
-                            && (r.run != null) == ran,
-                    what + " is refused by " + number + " at " + station + ", " + pass + ", not by " + r.number + " at "
-                            + r.station + ", " + r.pass);
+            check(r.number == number && r.station == station && r.pass == pass && r.bad == bad
+                            && r.getMessage().endsWith(".") && (r.run != null) == ran,
+                    what + " is refused by " + at(number, station, pass, bad) + ", not by "
+                            + at(r.number, r.station, r.pass, r.bad));
             return r;
         }
+    }
+
+    private static String at(int number, int station, int pass, int bad) {
+        return number + " at " + station + ", " + pass + " with " + bad + " bad";
     }
 
     static <T extends RuntimeException> void thrown(Class<T> type, String text, Callable<?> call, String what)

@@ -7,6 +7,7 @@ import java.util.concurrent.CyclicBarrier;
 import java.util.concurrent.ExecutorService;
 import java.util.concurrent.Executors;
 import java.util.concurrent.Future;
+import java.util.stream.IntStream;
 import merotunki.FullSplit;
 import merotunki.Merotunki;
 import merotunki.OrderedSplit;
@@ -18,14 +19,38 @@ import merotunki.Split;
 class TestMerotunki extends Checks {
     static final Settings PLAIN = Settings.DEFAULT;
 
-    static void refusedByEach(double[] readings, int stations, int passes, int number, int station, int pass,
-            String what) throws Exception {
+    static void refusedByEach(double[] readings, int stations, int passes, int number, String what) throws Exception {
+        refusedByEach(readings, stations, passes, number, 0, 0, 0, what);
+    }
+
+    // the refusal of the plain call, or null where it was not refused
+    static Refusal refusedByEach(double[] readings, int stations, int passes, int number, int station, int pass,
+            int bad, String what) throws Exception {
         double[] were = readings.clone();
-        refused(() -> Merotunki.split(readings, stations, passes, PLAIN), number, station, pass, what);
-        refused(() -> Merotunki.splitFull(readings, stations, passes, PLAIN), number, station, pass, what + ", full");
-        refused(() -> Merotunki.splitInOrder(readings, stations, passes, PLAIN), number, station, pass,
+        Refusal refusal =
+                refused(() -> Merotunki.split(readings, stations, passes, PLAIN), number, station, pass, bad, what);
+        refused(() -> Merotunki.splitFull(readings, stations, passes, PLAIN), number, station, pass, bad,
+                what + ", full");
+        refused(() -> Merotunki.splitInOrder(readings, stations, passes, PLAIN), number, station, pass, bad,
                 what + ", in order");
         same(readings, were, what + " changes nothing");
+        return refusal;
+    }
+
+    // a table with bad readings of all kinds at these indices, the first of them at that station and pass, is refused
+    // with this text
+    static void badReadings(int stations, int passes, int station, int pass, String text, int... at) throws Exception {
+        double[] readings = drawn(4, stations * passes);
+        double[] kinds = {Double.NaN, Double.POSITIVE_INFINITY, Double.NEGATIVE_INFINITY};
+        for (int kind = 0; kind < 3; kind++) {
+            for (int i = 0; i < at.length; i++) {
+                readings[at[i]] = kinds[(kind + i) % 3];
+            }
+            String what = kinds[kind] + " in " + stations + " x " + passes;
+            Refusal said =
+                    refusedByEach(readings, stations, passes, Refusal.READING, station, pass, at.length, what);
+            check(said != null && said.getMessage().equals(text), what + ": " + text + " is said, not " + said);
+        }
     }
 
     static void knownTables() throws Exception {
@@ -145,7 +170,7 @@ class TestMerotunki extends Checks {
         String what = stations + " x " + passes + " in order";
         double[] were = readings.clone();
         Refusal refusal =
-                refused(() -> Merotunki.splitInOrder(readings, stations, passes, settings), number, 0, 0, what);
+                refused(() -> Merotunki.splitInOrder(readings, stations, passes, settings), number, what);
         same(readings, were, "the readings stay, " + what);
         if (refusal == null || refusal.run == null) {
             return; // that has failed already
@@ -180,32 +205,32 @@ class TestMerotunki extends Checks {
 
     static void refusals() throws Exception {
         double[] twelve = drawn(1, 12);
-        refusedByEach(new double[0], 0, 3, 1, 0, 0, "no stations");
-        refusedByEach(twelve, 4, 0, 1, 0, 0, "no passes");
-        refusedByEach(twelve, 0, 49, 1, 0, 0, "no stations and 49 passes");
-        refusedByEach(drawn(2, 147), 49, 3, 2, 0, 0, "49 stations");
-        refusedByEach(drawn(2, 147), 3, 49, 2, 0, 0, "49 passes");
-        refusedByEach(twelve, -4, 3, 2, 0, 0, "-4 stations");
-        refusedByEach(twelve, 4, -3, 2, 0, 0, "-3 passes");
-        refusedByEach(twelve, -4, -3, 2, 0, 0, "-4 stations and -3 passes");
-        refusedByEach(twelve, Integer.MIN_VALUE, Integer.MAX_VALUE, 2, 0, 0, "the smallest and the largest int");
-        refusedByEach(twelve, 46341, 46341, 2, 0, 0, "sizes whose square is no int");
-        refusedByEach(drawn(3, 11), 4, 3, 3, 0, 0, "11 readings for 4 x 3");
-        refusedByEach(drawn(3, 13), 4, 3, 3, 0, 0, "13 readings for 4 x 3");
-        refusedByEach(new double[0], 4, 3, 3, 0, 0, "no readings for 4 x 3");
-        for (double bad : new double[] {Double.NaN, Double.POSITIVE_INFINITY, Double.NEGATIVE_INFINITY}) {
-            double[] odd = twelve.clone();
-            odd[5] = bad;
-            odd[11] = Double.NaN;
-            refusedByEach(odd, 4, 3, 8, 1, 2, bad + " at station 1, pass 2");
-            refusedByEach(odd, 2, 6, 8, 0, 5, bad + " at station 0, pass 5");
-        }
-        try {
-            Merotunki.split(new double[] {1.5, 2.0, Double.NaN, 1.0}, 2, 2, PLAIN);
-            check(false, "NaN is refused");
-        } catch (Refusal r) {
-            check(r.getMessage().equals("The reading of station 1 in pass 0 is not a usable number."), "the text of 8");
-        }
+        refusedByEach(new double[0], 0, 3, 1, "no stations");
+        refusedByEach(twelve, 4, 0, 1, "no passes");
+        refusedByEach(twelve, 0, 49, 1, "no stations and 49 passes");
+        refusedByEach(drawn(2, 147), 49, 3, 2, "49 stations");
+        refusedByEach(drawn(2, 147), 3, 49, 2, "49 passes");
+        refusedByEach(twelve, -4, 3, 2, "-4 stations");
+        refusedByEach(twelve, 4, -3, 2, "-3 passes");
+        refusedByEach(twelve, -4, -3, 2, "-4 stations and -3 passes");
+        refusedByEach(twelve, Integer.MIN_VALUE, Integer.MAX_VALUE, 2, "the smallest and the largest int");
+        refusedByEach(twelve, 46341, 46341, 2, "sizes whose square is no int");
+        refusedByEach(drawn(3, 11), 4, 3, 3, "11 readings for 4 x 3");
+        refusedByEach(drawn(3, 13), 4, 3, 3, "13 readings for 4 x 3");
+        refusedByEach(new double[0], 4, 3, 3, "no readings for 4 x 3");
+        double[] odd = twelve.clone();
+        odd[5] = odd[7] = Double.NaN; // told with 8 alone
+        refusedByEach(odd, 12, 0, 1, "no passes, and bad readings");
+        refusedByEach(odd, 49, 3, 2, "49 stations, and bad readings");
+        refusedByEach(odd, 4, 4, 3, "12 readings for 4 x 4, and bad ones");
+        badReadings(4, 3, 1, 2, "Station 1, pass 2: no usable reading.", 5);
+        badReadings(2, 6, 0, 5, "Station 0, pass 5: no usable reading.", 5);
+        badReadings(4, 3, 3, 2, "Station 3, pass 2: no usable reading.", 11);
+        badReadings(4, 3, 2, 1, "Station 2, pass 1: no usable reading, and 1 more.", 7, 11);
+        badReadings(3, 4, 1, 3, "Station 1, pass 3: no usable reading, and 3 more.", 7, 8, 9, 10);
+        badReadings(48, 48, 47, 47, "Station 47, pass 47: no usable reading.", 2303);
+        badReadings(48, 48, 0, 0, "Station 0, pass 0: no usable reading, and 2303 more.",
+                IntStream.range(0, 2304).toArray());
         thrown(NullPointerException.class, "readings", () -> Merotunki.split(null, 4, 3, PLAIN), "no array");
         thrown(NullPointerException.class, "readings", () -> Merotunki.splitFull(null, 4, 3, PLAIN), "no array, full");
         thrown(NullPointerException.class, "readings", () -> Merotunki.splitInOrder(null, 4, 3, PLAIN), "none, order");
@@ -218,18 +243,18 @@ class TestMerotunki extends Checks {
         check(PLAIN.limit == 100 && PLAIN.credit == 50 && PLAIN.tolerance == 1e-10 && PLAIN.absolute == 1e-12
                 && PLAIN.floor == 1e-21, "the defaults");
         for (int bad : new int[] {100001, -1, Integer.MAX_VALUE, Integer.MIN_VALUE}) {
-            refused(() -> PLAIN.withLimit(bad), 6, 0, 0, "limit " + bad);
+            refused(() -> PLAIN.withLimit(bad), 6, "limit " + bad);
         }
         for (int bad : new int[] {1001, -1, Integer.MAX_VALUE, Integer.MIN_VALUE}) {
-            refused(() -> PLAIN.withCredit(bad), 6, 0, 0, "credit " + bad);
+            refused(() -> PLAIN.withCredit(bad), 6, "credit " + bad);
         }
         for (double bad : new double[] {-Double.MIN_VALUE, -1.0, 1 / 0.0, -1 / 0.0, Double.NaN}) {
-            refused(() -> PLAIN.withTolerance(bad), 7, 0, 0, "tolerance " + bad);
-            refused(() -> PLAIN.withAbsolute(bad), 7, 0, 0, "absolute " + bad);
-            refused(() -> PLAIN.withFloor(bad), 7, 0, 0, "floor " + bad);
+            refused(() -> PLAIN.withTolerance(bad), 7, "tolerance " + bad);
+            refused(() -> PLAIN.withAbsolute(bad), 7, "absolute " + bad);
+            refused(() -> PLAIN.withFloor(bad), 7, "floor " + bad);
         }
-        refused(() -> PLAIN.withFloor(0.0), 7, 0, 0, "floor 0");
-        refused(() -> PLAIN.withFloor(-0.0), 7, 0, 0, "floor -0");
+        refused(() -> PLAIN.withFloor(0.0), 7, "floor 0");
+        refused(() -> PLAIN.withFloor(-0.0), 7, "floor -0");
         Settings s = PLAIN.withLimit(100000).withCredit(1000).withTolerance(-0.0).withAbsolute(Double.MAX_VALUE)
                 .withFloor(Double.MIN_VALUE);
         check(s.limit == 100000 && s.credit == 1000 && s.tolerance == 0.0 && s.absolute == Double.MAX_VALUE

@@ -4,8 +4,8 @@
 // The struct, the names of its words and the words one after the other, from one list.
 macro_rules! answer {
     ($($(#[$meaning:meta])* $word:ident,)*) => {
-        /// What a call answers: `merotunki_answer`. In a refusal all but number and place is 0; with 12 and 13, which
-        /// come after the run, all but number and place is the run's.
+        /// What a call answers: `merotunki_answer`. Row, column and bad are 0 but with number 8. The words after them
+        /// are 0 in a refusal; with 12 and 13, which come after the run, they are the run's.
         #[repr(C)]
         #[derive(Clone, Copy, Debug, Default, PartialEq, Eq)]
         pub struct Answer {
@@ -33,8 +33,12 @@ macro_rules! answer {
 answer! {
     /// 0 accepted, 1 to 8 and 11 to 13 refused.
     number,
-    /// For number 8 the index of the first bad reading, else 0.
-    place,
+    /// Station of the first reading that is infinite or NaN, row by row, counted from 0.
+    row,
+    /// Its pass, counted from 0.
+    column,
+    /// How many such readings the whole table has, the first one too.
+    bad,
     /// [`Answer::SETTLED`] or [`Answer::STOPPED`]; 0 where nothing was run.
     word,
     /// Passes of the walk; each is a sweep or a drop.

@@ -32,11 +32,11 @@ impl fmt::Display for Report {
 /// ```
 /// use merotunki::{Refusal, Settings, Table};
 ///
-/// let mut readings = [1.5, 2.0, f64::NAN, 1.0];
+/// let mut readings = [1.5, 2.0, f64::NAN, f64::INFINITY];
 /// let refusal = Table::new(&mut readings, 2, 2)?.split(&Settings::default()).unwrap_err();
-/// assert_eq!(refusal, Refusal::Reading { station: 1, pass: 0 });
+/// assert_eq!(refusal, Refusal::Reading { station: 1, pass: 0, bad: 2 });
 /// assert_eq!(refusal.number(), 8);
-/// assert_eq!(refusal.to_string(), "The reading of station 1 in pass 0 is not a usable number.");
+/// assert_eq!(refusal.to_string(), "Station 1, pass 0: no usable reading, and 1 more.");
 /// # Ok::<(), Refusal>(())
 /// ```
 #[derive(Clone, Copy, Debug, PartialEq, Eq)]
@@ -59,9 +59,16 @@ pub enum Refusal {
     Count,
     /// 7: a tolerance, absolute bound or floor that is not allowed.
     Bound,
-    /// 8: a reading that is infinite or NaN; the first such one, station by station, counted from 0.
-    #[allow(missing_docs)]
-    Reading { station: usize, pass: usize },
+    /// 8: a reading that is infinite or NaN. Station and pass, counted from 0, are those of the first
+    /// such one, station by station.
+    Reading {
+        /// Its station.
+        station: usize,
+        /// Its pass.
+        pass: usize,
+        /// How many such readings the whole table has, this one too.
+        bad: usize,
+    },
     /// 12: the run stopped, so that its values are not final.
     Stopped,
     /// 13: the run settled, and a value is infinite or NaN.
@@ -102,8 +109,12 @@ impl Refusal {
 impl fmt::Display for Refusal {
     fn fmt(&self, f: &mut fmt::Formatter<'_>) -> fmt::Result {
         match self {
-            Refusal::Reading { station, pass } => {
-                write!(f, "The reading of station {station} in pass {pass} is not a usable number.")
+            Refusal::Reading { station, pass, bad } => {
+                write!(f, "Station {station}, pass {pass}: no usable reading")?;
+                if *bad > 1 {
+                    write!(f, ", and {} more", bad - 1)?;
+                }
+                f.write_str(".")
             }
             other => other.plain().map_or(Ok(()), |(.., text)| f.write_str(text)),
         }
@@ -121,13 +132,16 @@ pub(crate) fn report(answer: Answer) -> Report {
     }
 }
 
-// What the answer says of a table with that many columns. The library has no other numbers than 0, 8
-// and those of `PLAIN`, and gives 8 only where there are columns.
-pub(crate) fn outcome(answer: Answer, columns: usize) -> Result<Report, Refusal> {
-    let (number, place) = (answer.number, answer.place as usize);
+// What the answer says. The library has no other numbers than 0, 8 and those of `PLAIN`.
+pub(crate) fn outcome(answer: Answer) -> Result<Report, Refusal> {
+    let Answer { number, row, column, bad, .. } = answer;
     match PLAIN.iter().find(|(listed, ..)| *listed == number) {
         Some((_, refusal, _)) => Err(*refusal),
         None if number == 0 => Ok(report(answer)),
-        None => Err(Refusal::Reading { station: place / columns, pass: place % columns }),
+        None => Err(Refusal::Reading {
+            station: row as usize,
+            pass: column as usize,
+            bad: bad as usize,
+        }),
     }
 }

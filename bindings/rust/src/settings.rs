@@ -28,7 +28,7 @@ impl Default for Settings {
 impl Settings {
     // The library checks the settings when it splits, so it is given a table of one zero to split.
     fn checked(choice: Choice) -> Result<Self, Refusal> {
-        outcome(raw::svd(&mut [0.0], 1, 1, choice), 1).map(|_| Settings(choice))
+        outcome(raw::svd(&mut [0.0], 1, 1, choice)).map(|_| Settings(choice))
     }
 
     /// With another limit, at most 100,000: the walk stops when its counter, one a pass, gets there.

@@ -33,7 +33,7 @@ impl<'a> Table<'a> {
         // The library checks sizes and length before the limit. With a limit that it refuses, `Count`
         // says that they are fit, and nothing is written.
         let unfit = Choice { limit: u64::MAX, ..raw::defaults() };
-        match outcome(raw::svd(readings, stations, passes, unfit), passes) {
+        match outcome(raw::svd(readings, stations, passes, unfit)) {
             Err(Refusal::Count) => Ok(Table { entries: readings, stations, passes }),
             Err(refusal) => Err(refusal),
             Ok(_) => unreachable!("a limit above 100,000 is refused"),
@@ -42,7 +42,7 @@ impl<'a> Table<'a> {
 
     /// Splits the table where it stands. Refuses only `Reading`.
     pub fn split(&mut self, settings: &Settings) -> Result<Report, Refusal> {
-        outcome(raw::svd(self.entries, self.stations, self.passes, settings.choice()), self.passes)
+        outcome(raw::svd(self.entries, self.stations, self.passes, settings.choice()))
     }
 
     /// Splits the table where it stands and hands out U and V; table and report are those of
@@ -67,7 +67,7 @@ impl<'a> Table<'a> {
         let mut factors = Factors::begun(stations, passes);
         let answer =
             raw::full_svd(self.entries, factors.lent(), stations, passes, settings.choice());
-        outcome(answer, passes).map(|report| (report, factors))
+        outcome(answer).map(|report| (report, factors))
     }
 
     /// Splits the table where it stands, as [`Table::split_full`] does, and puts the values in order
@@ -109,7 +109,7 @@ impl<'a> Table<'a> {
         let mut factors = Factors::begun(stations, passes);
         let answer =
             raw::ordered_svd(self.entries, factors.lent(), values, stations, passes, choice);
-        match outcome(answer, passes) {
+        match outcome(answer) {
             Ok(report) => Ok((report, factors)),
             Err(refusal) => {
                 let run = refusal.after_run().then(|| (report(answer), factors));

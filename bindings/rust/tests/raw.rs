@@ -1,6 +1,6 @@
 //! The library's own functions as raw.rs declares them: every number in its order with nothing written,
-//! those that come after the run, the identity's refusals, every way that a row is not fit, factors of
-//! one's own, and the layout.
+//! where bad readings are and how many, the numbers that come after the run, the identity's refusals,
+//! every way that a row is not fit, factors of one's own, and the layout.
 
 use merotunki::raw::*;
 
@@ -96,11 +96,10 @@ fn every_number_comes_first_and_writes_nothing() {
                 spoil(&mut l, first);
                 spoil(&mut l, other);
                 let before = patterns(&l);
-                let place = if first == 8 { 5 } else { 0 };
-                assert_eq!(
-                    call(&mut l, which),
-                    Answer { number: first, place, ..Answer::default() }
-                );
+                // bad readings are told with 8 alone, though there are some wherever `other` is 8
+                let (row, column, bad) = if first == 8 { (1, 2, 2) } else { (0, 0, 0) };
+                let wanted = Answer { number: first, row, column, bad, ..Answer::default() };
+                assert_eq!(call(&mut l, which), wanted);
                 assert_eq!(patterns(&l), before);
             }
         }
@@ -108,12 +107,43 @@ fn every_number_comes_first_and_writes_nothing() {
         let before = patterns(&l);
         let answer = call(&mut l, which);
         assert_eq!((answer.number, answer.word, answer.range), (0, 1, 1));
+        assert_eq!((answer.row, answer.column, answer.bad), (0, 0, 0));
         assert_ne!(patterns(&l)[..12], before[..12]);
         assert_eq!(patterns(&l)[12..20], before[12..20]);
         let listed = matches!(which, Call::Ordered);
         assert_eq!(listed, patterns(&l)[60..63] != before[60..63]);
         assert_eq!(patterns(&l)[63..], before[63..]);
     }
+}
+
+// Row and column of the first bad reading, and how many there are behind it, wherever it stands.
+#[test]
+fn bad_readings_have_a_place_and_a_count() {
+    let odd = [f64::NAN, f64::INFINITY, f64::NEG_INFINITY];
+    let choice = fit().choice;
+    let refused = |rows: usize, columns: usize, row: usize, column: usize, step: usize| {
+        let mut m: Vec<f64> = (0..rows * columns).map(|i| i as f64).collect();
+        let all: Vec<usize> = (row * columns + column..m.len()).step_by(step).collect();
+        all.iter().for_each(|&at| m[at] = odd[at % 3]);
+        let (row, column, bad) = (row as u64, column as u64, all.len() as u64);
+        let wanted = Answer { number: 8, row, column, bad, ..Answer::default() };
+        // U, V and the list are not looked at: what is no number there is not counted
+        let square = |n: usize| vec![f64::NAN; n * n];
+        let (mut u, mut v, mut w) =
+            (square(rows), square(columns), vec![f64::NAN; rows.min(columns)]);
+        assert_eq!(svd(&mut m, rows, columns, choice), wanted);
+        assert_eq!(full_svd(&mut m, (&mut u, &mut v), rows, columns, choice), wanted);
+        assert_eq!(ordered_svd(&mut m, (&mut u, &mut v), &mut w, rows, columns, choice), wanted);
+    };
+    for (rows, columns) in [(1, 1), (1, 7), (7, 1), (3, 5), (5, 3), (48, 2), (2, 48)] {
+        for (row, column) in (0..rows).flat_map(|i| (0..columns).map(move |j| (i, j))) {
+            for step in [1, 4, rows * columns] {
+                refused(rows, columns, row, column, step);
+            }
+        }
+    }
+    refused(48, 48, 47, 47, 1);
+    refused(48, 48, 0, 0, 1);
 }
 
 // After the run: all is as the accumulating call leaves it, but the number. The list is as it was.
@@ -135,7 +165,7 @@ fn two_numbers_come_after_the_run() {
         let mut values = vec![7.0; rows.min(columns)];
         let lent = (&mut by_u[..], &mut by_v[..]);
         let answer = ordered_svd(&mut by_m, lent, &mut values, rows, columns, choice);
-        assert_eq!(run.words()[2..], counts);
+        assert_eq!((&run.words()[..4], &run.words()[4..]), (&[0; 4][..], &counts[..]));
         assert_eq!(answer, Answer { number, ..run });
         assert_eq!((by_m, by_u, by_v), (m, u, v));
         assert_eq!(values, vec![7.0; rows.min(columns)]);

@@ -156,7 +156,8 @@ fn not_in_order() {
         assert_eq!((bits(&a), refusal, run), (bits(&was), Refusal::List, None));
     }
     let odd = [was[..7].to_vec(), vec![f64::NAN], was[8..].to_vec()].concat();
-    for (length, wanted) in [(3, Refusal::Reading { station: 2, pass: 1 }), (4, Refusal::List)] {
+    let bad = Refusal::Reading { station: 2, pass: 1, bad: 1 };
+    for (length, wanted) in [(3, bad), (4, Refusal::List)] {
         let (a, refusal, run) = split(&odd, 4, 3, &mut vec![7.0; length], &plain);
         assert_eq!((bits(&a), refusal, run), (bits(&odd), wanted, None));
     }
@@ -322,27 +323,51 @@ fn unfit_settings() {
 
 #[test]
 fn bad_readings() {
-    let was = drawn(3, 12);
-    for (bad, at) in [(f64::NAN, 0), (f64::INFINITY, 7), (f64::NEG_INFINITY, 11)] {
-        let mut a = was.clone();
-        a[at] = bad;
-        a[11] = bad;
-        let before = bits(&a);
-        let mut table = Table::new(&mut a, 4, 3).unwrap();
-        let refusal = Refusal::Reading { station: at / 3, pass: at % 3 };
-        assert_eq!(table.split(&Settings::default()), Err(refusal));
-        assert_eq!(table.split_full(&Settings::default()), Err(refusal));
-        assert_eq!(bits(&a), before);
+    let settings = Settings::default();
+    let refused = |a: &mut [f64], stations: usize, passes: usize| {
+        let (before, mut values) = (bits(a), vec![7.0; stations.min(passes)]);
+        let mut table = Table::new(a, stations, passes).unwrap();
+        let refusal = table.split(&settings).unwrap_err();
+        assert_eq!(table.split_full(&settings), Err(refusal));
+        let unordered = Unordered { refusal, run: None };
+        assert_eq!(table.split_in_order(&mut values, &settings), Err(unordered));
+        assert_eq!((bits(a), values), (before, vec![7.0; stations.min(passes)]));
+        refusal
+    };
+    // where the bad readings of a table of 4 x 3 stand: the first one's station and pass, and the count
+    let cases = [
+        (vec![0], (0, 0, 1)),
+        (vec![11], (3, 2, 1)),
+        (vec![7, 11], (2, 1, 2)),
+        (vec![5, 6, 9, 10], (1, 2, 4)),
+    ];
+    for odd in [f64::NAN, f64::INFINITY, f64::NEG_INFINITY] {
+        for (at, (station, pass, bad)) in &cases {
+            let mut a = drawn(3, 12);
+            at.iter().for_each(|&at| a[at] = odd);
+            // behind the first one the others are of another kind
+            at[1..]
+                .iter()
+                .zip([f64::NEG_INFINITY, f64::NAN])
+                .for_each(|(&at, other)| a[at] = other);
+            let wanted = Refusal::Reading { station: *station, pass: *pass, bad: *bad };
+            assert_eq!(refused(&mut a, 4, 3), wanted);
+        }
     }
+    let all = refused(&mut [f64::NAN; MOST * MOST], MOST, MOST);
+    assert_eq!(all, Refusal::Reading { station: 0, pass: 0, bad: 2304 });
+    assert_eq!(all.to_string(), "Station 0, pass 0: no usable reading, and 2303 more.");
 }
 
 #[test]
 fn refusals_have_numbers_and_texts() {
     use Refusal::*;
-    let bad = Reading { station: 4, pass: 2 };
+    let bad = Reading { station: 4, pass: 2, bad: 1 };
     let all = [Empty, Large, Length, Stations, Passes, List, Count, Bound, bad, Stopped, Value];
     assert_eq!(all.map(|r| r.number()), [1, 2, 3, 4, 5, 11, 6, 7, 8, 12, 13]);
-    assert_eq!(bad.to_string(), "The reading of station 4 in pass 2 is not a usable number.");
+    assert_eq!(bad.to_string(), "Station 4, pass 2: no usable reading.");
+    let two = Reading { station: 4, pass: 2, bad: 2 };
+    assert_eq!(two.to_string(), "Station 4, pass 2: no usable reading, and 1 more.");
     let mut texts = all.map(|r| r.to_string()).to_vec();
     assert!(texts.iter().all(|t| t.len() < 80 && t.ends_with('.')));
     texts.sort();

@@ -9,11 +9,11 @@ final class Native {
 
     /** The words of an answer, in the order of merotunki.h's struct: the one list of them in Java. */
     enum Answer {
-        NUMBER, PLACE, WORD, PASSES, SWEEPS, DROPS, RANGE;
+        NUMBER, ROW, COLUMN, BAD, WORD, PASSES, SWEEPS, DROPS, RANGE;
 
         private static final int COUNT = values().length;
 
-        /** This word of an answer. All that the library answers fits an int: places are below 48 x 48. */
+        /** This word of an answer. All that the library answers fits an int: bad readings are at most 48 x 48. */
         int in(long[] answer) {
             return (int) answer[ordinal()];
         }
@@ -30,7 +30,7 @@ final class Native {
     static Report split(double[] table, int stations, int passes, Settings s) throws Refusal {
         long[] answer = new long[Answer.COUNT];
         svd(answer, table, stations, passes, s.limit, s.credit, s.tolerance, s.absolute, s.floor);
-        return outcome(answer, passes);
+        return outcome(answer);
     }
 
     /** The same, with U and V filled from the library's identity. */
@@ -38,7 +38,7 @@ final class Native {
             throws Refusal {
         long[] answer = new long[Answer.COUNT];
         fullSvd(answer, table, u, v, stations, passes, s.limit, s.credit, s.tolerance, s.absolute, s.floor);
-        return outcome(answer, passes);
+        return outcome(answer);
     }
 
     /** The same in order, with the values in the list. Refused by 12 or 13, the refusal has what the run left. */
@@ -50,7 +50,7 @@ final class Native {
         if (number == Refusal.STOPPED || number == Refusal.VALUE) {
             throw new Refusal(number, new FullSplit(new Report(answer), table, u, v, stations, passes));
         }
-        return outcome(answer, passes);
+        return outcome(answer);
     }
 
     /** Refuses by 1, 2 or 3 where the table does not fit its sizes. Writes nothing. */
@@ -63,11 +63,10 @@ final class Native {
         }
     }
 
-    private static Report outcome(long[] answer, int passes) throws Refusal {
+    private static Report outcome(long[] answer) throws Refusal {
         int number = Answer.NUMBER.in(answer);
-        int place = Answer.PLACE.in(answer);
         if (number == Refusal.READING) {
-            throw new Refusal(place / passes, place % passes);
+            throw new Refusal(Answer.ROW.in(answer), Answer.COLUMN.in(answer), Answer.BAD.in(answer));
         }
         if (number != 0) {
             throw new Refusal(number);

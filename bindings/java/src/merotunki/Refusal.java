@@ -22,10 +22,12 @@ public final class Refusal extends Exception {
      * too, for U, V and a list of values of a wrong length: these classes make all three and never give these numbers.
      */
     public final int number;
-    /** For number 8 the station of the first bad reading, counted from 0; else 0. */
+    /** For number 8 the station of the first reading that is infinite or NaN, counted from 0; else 0. */
     public final int station;
-    /** For number 8 the pass of the first bad reading, counted from 0; else 0. */
+    /** For number 8 its pass, counted from 0; else 0. */
     public final int pass;
+    /** For number 8 how many such readings the whole table has, the first one too; else 0. */
+    public final int bad;
     /**
      * For numbers 12 and 13 what {@link Merotunki#splitFull} would have handed out: report, matrix, U and V of the run;
      * else null. It is not serialized.
@@ -34,28 +36,29 @@ public final class Refusal extends Exception {
 
     /** By any number but 8, before a run. */
     Refusal(int number) {
-        this(number, 0, 0, null);
+        this(number, 0, 0, 0, null);
     }
 
     /** By 8. */
-    Refusal(int station, int pass) {
-        this(READING, station, pass, null);
+    Refusal(int station, int pass, int bad) {
+        this(READING, station, pass, bad, null);
     }
 
     /** By 12 or 13, after the run. */
     Refusal(int number, FullSplit run) {
-        this(number, 0, 0, run);
+        this(number, 0, 0, 0, run);
     }
 
-    private Refusal(int number, int station, int pass, FullSplit run) {
-        super(text(number, station, pass));
+    private Refusal(int number, int station, int pass, int bad, FullSplit run) {
+        super(text(number, station, pass, bad));
         this.number = number;
         this.station = station;
         this.pass = pass;
+        this.bad = bad;
         this.run = run;
     }
 
-    private static String text(int number, int station, int pass) {
+    private static String text(int number, int station, int pass, int bad) {
         switch (number) {
             case 1:
                 return "The table has no stations or no passes.";
@@ -74,7 +77,8 @@ public final class Refusal extends Exception {
             case 7:
                 return "A bound is below zero or no number, or the floor is not above zero.";
             case READING:
-                return "The reading of station " + station + " in pass " + pass + " is not a usable number.";
+                String more = bad > 1 ? ", and " + (bad - 1) + " more." : ".";
+                return "Station " + station + ", pass " + pass + ": no usable reading" + more;
             case STOPPED:
                 return "The run stopped: its values are not final.";
             case VALUE:
