@@ -130,8 +130,8 @@ unfolding ofBits toBits neg add sub mul div lt eq isNan magnitude signOf smaller
     rotationOf pairTurned rowsTurned columnsTurned lineCopied lineCleared timesFrom largestOf scaled squaresOf
     reflectionOf rowTimes tailLess rowLess rowReflected reflectedRight rowAdded rowsAdded columnSums rowLessAll
     rowLessTimes lowerLess rowsLess reflectedLeft columnMatrix rowMatrix factorReflected columnZeroed rowZeroed
-    placesZeroed bidiagonal turned singular negligible steps swept pass run counted looked badReadings firstOf accepted outcome identity
-    defaultTolerance defaultAbsolute defaultFloor
+    placesZeroed bidiagonal turned singular negligible steps swept pass run counted looked badReadings firstOf accepted
+    outcome identity defaultTolerance defaultAbsolute defaultFloor
 cases = (refl, refl)
 
 -- ---- slips that a porter is drawn to, each with a row that shows it: the answers are the original's
@@ -226,6 +226,6 @@ unfolding ofBits toBits neg add sub mul div lt eq isNan magnitude signOf smaller
     rotationOf pairTurned rowsTurned columnsTurned lineCopied lineCleared timesFrom largestOf scaled squaresOf
     reflectionOf rowTimes tailLess rowLess rowReflected reflectedRight rowAdded rowsAdded columnSums rowLessAll
     rowLessTimes lowerLess rowsLess reflectedLeft columnMatrix rowMatrix factorReflected columnZeroed rowZeroed
-    placesZeroed bidiagonal turned singular negligible steps swept pass run counted looked badReadings firstOf accepted outcome identity
-    defaultTolerance defaultAbsolute defaultFloor
+    placesZeroed bidiagonal turned singular negligible steps swept pass run counted looked badReadings firstOf accepted
+    outcome identity defaultTolerance defaultAbsolute defaultFloor
 slips = refl

@@ -1,5 +1,5 @@
--- The rules' own examples (docs/RULES.md, 11.6), whole, by computing: a text, the same without its last LF, and one with
--- a bad reading. Assumes nothing.
+-- The rules' own examples (docs/RULES.md, 11.6), whole, by computing: a text, the same without its last LF, and one
+-- with a bad reading. Assumes nothing.
 use mathlib.Core.Path.{_≡_, refl}
 use mathlib.Core.List.{[], _∷_, _++_}
 use lib.Ieee.{neg, add, sub, mul, div, lt, eq, isNan, ofBits, toBits}
@@ -33,12 +33,26 @@ answer =
     ++ (67 ∷ 48 ∷ 49 ∷ 52 ∷ []) ++ twelve ++ (LF ∷ 48 ∷ 48 ∷ 48 ∷ 48 ∷ []) ++ twelve ++ (LF ∷ [])
 
 pub example : split (unended ++ (LF ∷ [])) ≡ answer
-unfolding ofBits toBits neg add sub mul div lt eq isNan magnitude signOf smaller larger squareRoot go repeated rotationOf pairTurned rowsTurned columnsTurned lineCopied lineCleared timesFrom largestOf scaled squaresOf reflectionOf rowTimes tailLess rowLess rowReflected reflectedRight rowAdded rowsAdded columnSums rowLessAll rowLessTimes lowerLess rowsLess reflectedLeft columnMatrix rowMatrix factorReflected columnZeroed rowZeroed placesZeroed bidiagonal turned singular negligible steps swept pass run counted looked badReadings firstOf accepted outcome defaultTolerance defaultAbsolute defaultFloor _>>=_ when cut worth value decimal number pattern digit digits placesBy shown ending lineText countLine named entryLine rowLine short line andThen contents head body bodies reading hex rowText rowsText reportText refusedText outcomeText surveyText surveysText malformedText printed split
+unfolding ofBits toBits neg add sub mul div lt eq isNan magnitude signOf smaller larger squareRoot go repeated
+    rotationOf pairTurned rowsTurned columnsTurned lineCopied lineCleared timesFrom largestOf scaled squaresOf
+    reflectionOf rowTimes tailLess rowLess rowReflected reflectedRight rowAdded rowsAdded columnSums rowLessAll
+    rowLessTimes lowerLess rowsLess reflectedLeft columnMatrix rowMatrix factorReflected columnZeroed rowZeroed
+    placesZeroed bidiagonal turned singular negligible steps swept pass run counted looked badReadings firstOf accepted
+    outcome defaultTolerance defaultAbsolute defaultFloor _>>=_ when cut worth value decimal number pattern digit digits
+    placesBy shown ending lineText countLine named entryLine rowLine short line andThen contents head body bodies
+    reading hex rowText rowsText reportText refusedText outcomeText surveyText surveysText malformedText printed split
 example = refl
 
 -- without the last LF line 4 is malformed, and nothing else is printed: refused 9 4
 pub example-unended : split unended ≡ refusedWord ++ (space ∷ 57 ∷ space ∷ 52 ∷ LF ∷ [])
-unfolding ofBits toBits neg add sub mul div lt eq isNan magnitude signOf smaller larger squareRoot go repeated rotationOf pairTurned rowsTurned columnsTurned lineCopied lineCleared timesFrom largestOf scaled squaresOf reflectionOf rowTimes tailLess rowLess rowReflected reflectedRight rowAdded rowsAdded columnSums rowLessAll rowLessTimes lowerLess rowsLess reflectedLeft columnMatrix rowMatrix factorReflected columnZeroed rowZeroed placesZeroed bidiagonal turned singular negligible steps swept pass run counted looked badReadings firstOf accepted outcome defaultTolerance defaultAbsolute defaultFloor _>>=_ when cut worth value decimal number pattern digit digits placesBy shown ending lineText countLine named entryLine rowLine short line andThen contents head body bodies reading hex rowText rowsText reportText refusedText outcomeText surveyText surveysText malformedText printed split
+unfolding ofBits toBits neg add sub mul div lt eq isNan magnitude signOf smaller larger squareRoot go repeated
+    rotationOf pairTurned rowsTurned columnsTurned lineCopied lineCleared timesFrom largestOf scaled squaresOf
+    reflectionOf rowTimes tailLess rowLess rowReflected reflectedRight rowAdded rowsAdded columnSums rowLessAll
+    rowLessTimes lowerLess rowsLess reflectedLeft columnMatrix rowMatrix factorReflected columnZeroed rowZeroed
+    placesZeroed bidiagonal turned singular negligible steps swept pass run counted looked badReadings firstOf accepted
+    outcome defaultTolerance defaultAbsolute defaultFloor _>>=_ when cut worth value decimal number pattern digit digits
+    placesBy shown ending lineText countLine named entryLine rowLine short line andThen contents head body bodies
+    reading hex rowText rowsText reportText refusedText outcomeText surveyText surveysText malformedText printed split
 example-unended = refl
 
 -- 1, then 7 1 2, then 4008000000000000 7FF0000000000000
@@ -51,5 +65,12 @@ infinite =
 pub example-refused :
     split infinite
     ≡ (55 ∷ space ∷ []) ++ refusedWord ++ (space ∷ 56 ∷ space ∷ 48 ∷ space ∷ 49 ∷ space ∷ 49 ∷ LF ∷ [])
-unfolding ofBits toBits neg add sub mul div lt eq isNan magnitude signOf smaller larger squareRoot go repeated rotationOf pairTurned rowsTurned columnsTurned lineCopied lineCleared timesFrom largestOf scaled squaresOf reflectionOf rowTimes tailLess rowLess rowReflected reflectedRight rowAdded rowsAdded columnSums rowLessAll rowLessTimes lowerLess rowsLess reflectedLeft columnMatrix rowMatrix factorReflected columnZeroed rowZeroed placesZeroed bidiagonal turned singular negligible steps swept pass run counted looked badReadings firstOf accepted outcome defaultTolerance defaultAbsolute defaultFloor _>>=_ when cut worth value decimal number pattern digit digits placesBy shown ending lineText countLine named entryLine rowLine short line andThen contents head body bodies reading hex rowText rowsText reportText refusedText outcomeText surveyText surveysText malformedText printed split
+unfolding ofBits toBits neg add sub mul div lt eq isNan magnitude signOf smaller larger squareRoot go repeated
+    rotationOf pairTurned rowsTurned columnsTurned lineCopied lineCleared timesFrom largestOf scaled squaresOf
+    reflectionOf rowTimes tailLess rowLess rowReflected reflectedRight rowAdded rowsAdded columnSums rowLessAll
+    rowLessTimes lowerLess rowsLess reflectedLeft columnMatrix rowMatrix factorReflected columnZeroed rowZeroed
+    placesZeroed bidiagonal turned singular negligible steps swept pass run counted looked badReadings firstOf accepted
+    outcome defaultTolerance defaultAbsolute defaultFloor _>>=_ when cut worth value decimal number pattern digit digits
+    placesBy shown ending lineText countLine named entryLine rowLine short line andThen contents head body bodies
+    reading hex rowText rowsText reportText refusedText outcomeText surveyText surveysText malformedText printed split
 example-refused = refl

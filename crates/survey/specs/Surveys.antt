@@ -1,17 +1,20 @@
 -- What the surveys of any text are, and what `split` says of each: `surveys`, at the end. Assumes nothing.
 use mathlib.Core.Path.{_≡_, refl, sym, ap, subst, _∙_}
-use mathlib.Core.Bool.{Bool, true, false}
+use mathlib.Core.Bool.{Bool, true, false, true≢false}
 use mathlib.Core.Logic.{_↔_, _⊎_, inl, inr, ⊎-elim}
 use mathlib.Core.List.{List, [], _∷_, _++_, List·Memᴰ, List·Memᴰ·not-nil, List·Memᴰ·cases-cons}
-use Prim.Native.Nat.{ℕ, _-_, _*_}
+use Prim.Native.Nat.{ℕ, _+_, _-_, _*_, _<_}
+use native.Mathlib.Nat.{le-of-eq}
 use native.Mathlib.Omega.{arith}
 use borrow.Author.Tests.{eqb-true, eqb-false}
 use lib.Dec.{eqb}
-use lib.Ieee.{Float, binary64}
-use lib.ListN.{length}
+use lib.Ieee.{Float, nan, binary64}
+use lib.Ieee.Scale.{finite}
+use lib.ListN.{length, getD}
 use Rattle.method.specs.Work.{work}
 use Rattle.method.specs.Checks.{Place, badReadings, refusal}
-use Rattle.method.specs.Checks.Readings.{AllGood, BadReading, FirstBad, first-bad, none-bad, good-or-bad}
+use Rattle.method.specs.Checks.Readings.{AllGood, BadReading, FirstBad, first-bad, none-bad, all-finite}
+use Rattle.method.specs.Index.{inside}
 use Rattle.method.specs.Report.{refused}
 use Rattle.method.specs.Outcome.{Outcome, outcomeOf, plainOutcome, accepted}
 use Rattle.method.specs.Outcome.Refused.{accepted-number}
@@ -42,10 +45,11 @@ number s = outcomeFor s .report .refusal .number
 abbrev pub place : Survey → Place
 place s = outcomeFor s .report .refusal .place
 
--- every reading is finite; one is not; which is the first that is not, and how many are not
-abbrev pub AllFinite : Survey → Type 0
-AllFinite s = AllGood (s .entry .cols) (s .entry .rows) (s .entry .cols) (s .readings)
+-- every reading is finite
+abbrev pub AllFinite : List Float → Type 0
+AllFinite xs = (k : ℕ) → k < length xs → finite (getD xs k nan) ≡ true
 
+-- one is not; and which is the first that is not, and how many are not
 abbrev pub OneBad : Survey → Type 0
 OneBad s = BadReading (s .entry .cols) (s .entry .rows) (s .entry .cols) (s .readings)
 
@@ -76,7 +80,7 @@ pub record Judged (s : Survey) : Type 0 where
   -- it is accepted or refused by 8, and by no other number
   pub numbers : (number s ≡ 0) ⊎ (number s ≡ 8)
   -- accepted exactly when every reading is finite; the report and the rows are printed then
-  pub accepted-when : (number s ≡ 0) ↔ AllFinite s
+  pub accepted-when : (number s ≡ 0) ↔ AllFinite (s .readings)
   pub accepted-printed : number s ≡ 0 → surveyText s ≡ acceptedText s
   -- refused by 8 exactly when a reading is not; the line with the first such reading's row and column, and with how
   -- many there are, is printed then
@@ -134,16 +138,20 @@ module _ (s : Survey) (z : Sized s) where
   abbrev xs : List Float
   xs = s .readings
 
-  not-both : AllFinite s → OneBad s → ⊥
-  not-both = good-or-bad (s .entry .cols) (s .entry .rows) (s .entry .cols) xs
+  not-both : AllFinite xs → OneBad s → ⊥
+  not-both all b =
+      let at = b .there in
+      let here = inside (s .entry .cols) (length xs) (at .row-in) (at .column-in) (le-of-eq (sym (z .1))) in
+      true≢false (sym (all (b .row * s .entry .cols + b .column) here) ∙ at .bad)
 
   fits : Table (s .entry .rows) (s .entry .cols) xs
   fits = table (s .entry) xs (z .0) (z .1)
 
-  judged-finite : AllFinite s → Judged s
+  judged-finite : AllGood (s .entry .cols) (s .entry .rows) (s .entry .cols) xs → Judged s
   unfolding surveyText
-  judged-finite all =
-      let o : outcomeFor s ≡ splitOf s = accepts (s .entry .rows) (s .entry .cols) xs fits all in
+  judged-finite good =
+      let all : AllFinite xs = λ k h. all-finite (s .entry .rows) (s .entry .cols) xs good k (rw (z .1) at h) in
+      let o : outcomeFor s ≡ splitOf s = accepts (s .entry .rows) (s .entry .cols) xs fits good in
       let a = accepted-number binary64 false (s .entry .rows) (s .entry .cols) defaults (work xs [] []) in
       let n : number s ≡ 0 = ap (λ (o : Outcome). o .report .refusal .number) o ∙ a in
       record {

@@ -126,7 +126,8 @@ module _ (rows cols : ℕ) (xs : List Float) (t : Table rows cols xs) where
 
   -- and where one is not, it refuses by 8 with what the search finds, and leaves the readings as they were
   pub refuses : BadReading cols rows cols xs
-      → plainOutcome binary64 rows cols defaults xs ≡ outcomeOf (refused (refusal 8 (badReadings cols rows cols xs))) given
+      → plainOutcome binary64 rows cols defaults xs
+      ≡ outcomeOf (refused (refusal 8 (badReadings cols rows cols xs))) given
   refuses b =
       let n : why .number ≡ 8 =
       eight-given false rows cols defaults given (fit-size, (fit-large, tt)) lengths-fit (fit-limit, (fit-bounds, tt)) b in

@@ -2,8 +2,8 @@
 -- and to leave in what it was lent. (That every call ends, without a fault, is what the checker shows of all code.)
 -- First the statements, `Demand1` to `Demand3`, then that they hold of every answer, and the laws of two calls; last,
 -- that each row of U and V goes its own way. They lean on the definition: `outcome`, `accepted` (method's Outcome), the
--- list `meanings` and `FirstBad` (method's Checks.Table, Checks.Readings), and on `OwnRows`, `rowAlone`, `ZeroRow`, `exchanged` (method's Rows). Assumes
--- nothing.
+-- list `meanings` (method's Checks.Table), `FirstBad` (Checks.Readings), and on `OwnRows`, `rowAlone`, `ZeroRow`,
+-- `exchanged` (method's Rows). Assumes nothing.
 use mathlib.Core.Path.{_≡_, sym, ap, _∙_}
 use mathlib.Core.Logic.{_↔_}
 use mathlib.Core.Bool.{Bool, true, false}

@@ -78,7 +78,8 @@ module _ (kept : Bool) (rows cols : ℕ) (s : Settings) (w₀ : Work) (r : Repor
     -- the refusal that is told is the definition's, so its place is true
     pub told-place : TruePlace kept rows cols (settingsOf s) w₀ (refusalIn (r .refusal))
     told-place =
-        rw (ap (λ (x : Report.Report). x .refusal) (reportsOf a) ∙ outcome-refusal binary64 kept rows cols (settingsOf s) w₀)
+        let q = ap (λ (x : Report.Report). x .refusal) (reportsOf a) in
+        rw (q ∙ outcome-refusal binary64 kept rows cols (settingsOf s) w₀)
         (true-place kept rows cols (settingsOf s) w₀)
 
     -- a refused call tells its refusal alone

@@ -1,13 +1,16 @@
--- The search for readings that are infinite or NaN: what is found of a table, whatever its stride. The place is that of a
--- bad reading, every reading before it, row by row, is good, and the count is the number of bad ones. Assumes nothing.
+-- The search for readings that are infinite or NaN: what is found of a table, whatever its stride. The place is that of
+-- a bad reading, every reading before it, row by row, is good, and the count is the number of bad ones. Assumes
+-- nothing.
 use mathlib.Core.Path.{_≡_, refl, sym, ap, _∙_}
 use mathlib.Core.Logic.{_⊎_, inl, inr, ⊎-elim}
 use mathlib.Core.Bool.{Bool, true, false, not, true≢false}
 use mathlib.Core.List.{List}
-use Prim.Native.Nat.{ℕ, _+_, _*_, _≤_, _<_}
+use Prim.Native.Nat.{ℕ, zero, suc, _+_, _-_, _*_, _≤_, _<_}
+use native.Mathlib.Nat.{zero-mul, suc-mul}
 use native.Mathlib.Omega.{arith}
 use lib.Dec.{ltb, eqb}
-use lib.Ieee.{Float}
+use lib.ListN.{getD}
+use lib.Ieee.{Float, nan}
 use lib.Ieee.Scale.{finite}
 use borrow.Author.Tests.{ltb-true, ltb-false, lt-ltb, eq-eqb, ne-eqb, eqb-true, eqb-false}
 use Rattle.method.specs.Floats.{pick}
@@ -16,8 +19,7 @@ use Rattle.method.specs.Repeated.{repeated, repeated-along, repeated-bot
 use Rattle.method.specs.Work.{at}
 use Rattle.method.specs.Order.{howMany}
 use Rattle.method.specs.Checks.{Place, placeOf, nowhere, counted, looked, rowLooked, badReadings}
-use Rattle.method.specs.Checks.Tests.{Says}
-use Rattle.method.specs.Checks.Tests.{some as one-or-more}
+use Rattle.method.specs.Checks.Tests.{Says, some as one-or-more}
 
 -- ---- what is said of a table
 
@@ -59,6 +61,48 @@ module _ (stride rows cols : ℕ) (b : List Float) where
     pub before : GoodBefore (p .row) (p .column)
     pub count : p .bad ≡ badOfAll
     pub some : 1 ≤ p .bad
+
+-- ---- every reading of a packed table stands in a row and a column
+
+pub record Stands (rows cols k : ℕ) : Type 0 where
+  pub row : ℕ
+  pub column : ℕ
+  pub row-in : row < rows
+  pub column-in : column < cols
+  pub here : row * cols + column ≡ k
+
+pub each-stands : (rows cols k : ℕ) → k < rows * cols → Stands rows cols k
+each-stands zero cols k h = absurd (let z = rw (zero-mul cols) at h in omega (arith, z))
+each-stands (suc n) cols k h = go (ltb k (n * cols)) refl (each-stands n cols k)
+  where
+    go : (t : Bool) → ltb k (n * cols) ≡ t → (k < n * cols → Stands n cols k) → Stands (suc n) cols k
+    go true t ih =
+        let p = ih (ltb-true k (n * cols) t) in
+        record {
+          row = p .row;
+          column = p .column;
+          row-in = omega (arith, p .row-in);
+          column-in = p .column-in;
+          here = p .here;
+        }
+    go false t ih =
+        let l = ltb-false k (n * cols) t in
+        let e = suc-mul n cols in
+        record {
+          row = n;
+          column = k - n * cols;
+          row-in = omega arith;
+          column-in = omega (arith, l, e, h);
+          here = omega (arith, l);
+        }
+
+-- so where all are good by row and column, each of the list is
+pub all-finite :
+    (rows cols : ℕ) (b : List Float) → AllGood cols rows cols b → (k : ℕ) → k < rows * cols →
+    finite (getD b k nan) ≡ true
+all-finite rows cols b all k h =
+    let p = each-stands rows cols k h in
+    rw (← p .here) (all (p .row) (p .column) (p .row-in) (p .column-in))
 
 -- ---- a reading looked at
 
@@ -159,7 +203,8 @@ module _ (stride rows cols : ℕ) (b : List Float) where
           same k l r c e m false u =
               let d : l ≡ j = omega (arith, m, ltb-false l j u) in
               rw (e, d) t
-      go true t (inr s) = rw (looked-good i j x p t) (inr record { some = s .some; there = s .there; before = s .before })
+      go true t (inr s) =
+          rw (looked-good i j x p t) (inr record { some = s .some; there = s .there; before = s .before })
       go false t (inl n) =
           rw (looked-bad i j x p t, counted-first i j p (ap (λ (q : Place). q .bad) (n .none)))
           (inr record {
@@ -191,7 +236,11 @@ module _ (stride rows cols : ℕ) (b : List Float) where
   unfolding badReadings
   found =
       repeated-along (λ i p. Yet i 0 p) wholeRow rows (λ i p h y. one-row i p h y) nowhere
-      (inl record { none = refl; good = λ k l r c q. ⊎-elim (λ z. absurd (omega (arith, z))) (λ z. absurd (let w = z .1 in omega arith)) q })
+      (inl record {
+        none = refl;
+        good = λ k l r c q.
+            ⊎-elim (λ z. absurd (omega (arith, z))) (λ z. absurd (let w = z .1 in omega arith)) q;
+      })
 
   -- the count is the number of bad readings
   pub bad-count : badReadings stride rows cols b .bad ≡ badOfAll stride rows cols b
@@ -204,7 +253,9 @@ module _ (stride rows cols : ℕ) (b : List Float) where
       nowhere 0 refl
 
   -- where it is not 0, the place is the first one's,
-  pub first-bad : ¬ (badReadings stride rows cols b .bad ≡ 0) → FirstBad stride rows cols b (badReadings stride rows cols b)
+  pub first-bad :
+      ¬ (badReadings stride rows cols b .bad ≡ 0) →
+      FirstBad stride rows cols b (badReadings stride rows cols b)
   first-bad h =
       ⊎-elim (λ n. absurd (h (ap (λ (q : Place). q .bad) (n .none))))
       (λ s. record { there = s .there; before = s .before; count = bad-count; some = one-or-more _ h })
@@ -218,7 +269,9 @@ module _ (stride rows cols : ℕ) (b : List Float) where
 
   -- where all are good, none is bad
   pub good-or-bad : AllGood stride rows cols b → BadReading stride rows cols b → ⊥
-  good-or-bad all x = true≢false (sym (all (x .row) (x .column) (x .there .row-in) (x .there .column-in)) ∙ x .there .bad)
+  good-or-bad all x =
+      let at = x .there in
+      true≢false (sym (all (x .row) (x .column) (at .row-in) (at .column-in)) ∙ at .bad)
 
   -- the test for it says that there is a bad reading
   pub bad-reading : Says (ltb 0 (badReadings stride rows cols b .bad)) (BadReading stride rows cols b)

@@ -15,7 +15,8 @@ use Rattle.method.specs.Floats.{plusZero}
 use Rattle.method.specs.Work.{Work}
 use Rattle.method.specs.Settings.{Settings, mostSize, mostLimit, mostCredit}
 use Rattle.method.specs.Checks.{Place, nowhere, badReadings, Check, placed, Refusal, firstOf, boundFit}
-use Rattle.method.specs.Checks.{floorFit, sizeChecks, refusal, lengthChecks, tableChecks, settingChecks, readingChecks, checks}
+use Rattle.method.specs.Checks.{floorFit, sizeChecks, refusal, lengthChecks, tableChecks, settingChecks}
+use Rattle.method.specs.Checks.{readingChecks, checks}
 use Rattle.method.specs.Checks.{refusalOf}
 use Rattle.method.specs.Checks.Tests.{less, same, holds, lacks, nor, either, both, notAll, some, few, equal}
 use Rattle.method.specs.Checks.First.{first-here, first-beyond, first-hit, first-miss, first-none, Meaning, means}

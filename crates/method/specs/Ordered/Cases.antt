@@ -116,7 +116,7 @@ unfolding ofBits toBits neg add sub mul div lt eq isNan magnitude signOf smaller
     rotationOf pairTurned rowsTurned columnsTurned lineCopied lineCleared timesFrom largestOf scaled squaresOf
     reflectionOf rowTimes tailLess rowLess rowReflected reflectedRight rowAdded rowsAdded columnSums rowLessAll
     rowLessTimes lowerLess rowsLess reflectedLeft columnMatrix rowMatrix factorReflected columnZeroed rowZeroed
-    placesZeroed bidiagonal turned singular negligible steps swept pass run counted looked badReadings firstOf accepted outcome identity
-    defaultTolerance defaultAbsolute defaultFloor negative howMany newPlace order ahead valuesBy rowsMoved allFinite
-    putInOrder orderedOutcome
+    placesZeroed bidiagonal turned singular negligible steps swept pass run counted looked badReadings firstOf accepted
+    outcome identity defaultTolerance defaultAbsolute defaultFloor negative howMany newPlace order ahead valuesBy
+    rowsMoved allFinite putInOrder orderedOutcome
 in-order-cases = refl

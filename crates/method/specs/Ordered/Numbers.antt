@@ -157,7 +157,8 @@ lent-fit rows cols w l e =
 
 module _ (rows cols : ℕ) (s : Settings) (w : Work) (l : List Float) where
   ordered-tests : Means (orderedChecks rows cols s w l) (orderedMeanings rows cols s w l)
-  ordered-tests = means-join (lent-tests rows cols w l) (means-join (setting-tests s) (reading-tests rows cols (w .matrix)))
+  ordered-tests =
+      means-join (lent-tests rows cols w l) (means-join (setting-tests s) (reading-tests rows cols (w .matrix)))
 
   -- what the accumulating call, besides, would not refuse
   pub lent-none :
