@@ -42,6 +42,8 @@ full V one long; 2 2; 4 4 5; 2 1; 0 1e-10
 6 and 7; 2 2; 4 4 4; 2 1; 100001 -1
 7 and 8; 2 2; 4 4 4; 2 inf; 0 -1
 8 alone; 2 2; 4 4 4; 2 inf; 0 1e-10
+8 in row 1; 2 3; 6 4 9; 2 inf; 0 1e-10
+8 twice; 2 3; 6 4 9; -inf inf; 0 1e-10
 plain 3 and 6; 2 2; 3; 2 1; 100001 1e-10
 ";
 

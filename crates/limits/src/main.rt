@@ -219,7 +219,8 @@ fn lengths() {
     full(b"full V one long", 2, 2, [4, 4, 5], entries, s);
 }
 
-// Each has the faults of two numbers that follow one another; the last but one has that of 8 alone.
+// Each has the faults of two numbers that follow one another; then bad readings alone, and two numbers
+// of the plain call.
 fn order() {
     let s = settings(0, 1e-10);
     let over = settings(100001, 1e-10);
@@ -233,6 +234,8 @@ fn order() {
     full(b"6 and 7", 2, 2, [4, 4, 4], good, settings(100001, -1.0));
     full(b"7 and 8", 2, 2, [4, 4, 4], bad, settings(0, -1.0));
     full(b"8 alone", 2, 2, [4, 4, 4], bad, s);
+    full(b"8 in row 1", 2, 3, [6, 4, 9], bad, s);
+    full(b"8 twice", 2, 3, [6, 4, 9], [-1.0 / 0.0, 1.0 / 0.0], s);
     plain(b"plain 3 and 6", 2, 2, 3, good, over);
 }
 

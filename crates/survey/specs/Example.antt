@@ -32,39 +32,22 @@ answer =
     (55 ∷ space ∷ 115 ∷ 101 ∷ 116 ∷ 116 ∷ 108 ∷ 101 ∷ 100 ∷ space ∷ 48 ∷ space ∷ 48 ∷ space ∷ 48 ∷ space ∷ 49 ∷ LF ∷ [])
     ++ (67 ∷ 48 ∷ 49 ∷ 52 ∷ []) ++ twelve ++ (LF ∷ 48 ∷ 48 ∷ 48 ∷ 48 ∷ []) ++ twelve ++ (LF ∷ [])
 
-pub example : split (unended ++ (LF ∷ [])) ≡ answer
-unfolding ofBits toBits neg add sub mul div lt eq isNan magnitude signOf smaller larger squareRoot go repeated
-    rotationOf pairTurned rowsTurned columnsTurned lineCopied lineCleared timesFrom largestOf scaled squaresOf
-    reflectionOf rowTimes tailLess rowLess rowReflected reflectedRight rowAdded rowsAdded columnSums rowLessAll
-    rowLessTimes lowerLess rowsLess reflectedLeft columnMatrix rowMatrix factorReflected columnZeroed rowZeroed
-    placesZeroed bidiagonal turned singular negligible steps swept pass run counted looked badReadings firstOf accepted
-    outcome defaultTolerance defaultAbsolute defaultFloor _>>=_ when cut worth value decimal number pattern digit digits
-    placesBy shown ending lineText countLine named entryLine rowLine short line andThen contents head body bodies
-    reading hex rowText rowsText reportText refusedText outcomeText surveyText surveysText malformedText printed split
-example = refl
-
--- without the last LF line 4 is malformed, and nothing else is printed: refused 9 4
-pub example-unended : split unended ≡ refusedWord ++ (space ∷ 57 ∷ space ∷ 52 ∷ LF ∷ [])
-unfolding ofBits toBits neg add sub mul div lt eq isNan magnitude signOf smaller larger squareRoot go repeated
-    rotationOf pairTurned rowsTurned columnsTurned lineCopied lineCleared timesFrom largestOf scaled squaresOf
-    reflectionOf rowTimes tailLess rowLess rowReflected reflectedRight rowAdded rowsAdded columnSums rowLessAll
-    rowLessTimes lowerLess rowsLess reflectedLeft columnMatrix rowMatrix factorReflected columnZeroed rowZeroed
-    placesZeroed bidiagonal turned singular negligible steps swept pass run counted looked badReadings firstOf accepted
-    outcome defaultTolerance defaultAbsolute defaultFloor _>>=_ when cut worth value decimal number pattern digit digits
-    placesBy shown ending lineText countLine named entryLine rowLine short line andThen contents head body bodies
-    reading hex rowText rowsText reportText refusedText outcomeText surveyText surveysText malformedText printed split
-example-unended = refl
-
 -- 1, then 7 1 2, then 4008000000000000 7FF0000000000000
 abbrev infinite : Bytes
 infinite =
     (49 ∷ LF ∷ 55 ∷ space ∷ 49 ∷ space ∷ 50 ∷ LF ∷ [])
     ++ (52 ∷ 48 ∷ 48 ∷ 56 ∷ []) ++ twelve ++ (space ∷ 55 ∷ 70 ∷ 70 ∷ 48 ∷ []) ++ twelve ++ (LF ∷ [])
 
--- station 0 in pass 1 is infinite, the only one: 7 refused 8 0 1 1
-pub example-refused :
-    split infinite
-    ≡ (55 ∷ space ∷ []) ++ refusedWord ++ (space ∷ 56 ∷ space ∷ 48 ∷ space ∷ 49 ∷ space ∷ 49 ∷ LF ∷ [])
+-- what is printed of each: the answer; without the last LF line 4 is malformed, refused 9 4; station 0 in pass 1 is
+-- infinite, the only one, 7 refused 8 0 1 1
+pub examples :
+    (split (unended ++ (LF ∷ [])) ∷ split unended ∷ split infinite ∷ [])
+    ≡ (
+    answer
+    ∷ (refusedWord ++ (space ∷ 57 ∷ space ∷ 52 ∷ LF ∷ []))
+    ∷ ((55 ∷ space ∷ []) ++ refusedWord ++ (space ∷ 56 ∷ space ∷ 48 ∷ space ∷ 49 ∷ space ∷ 49 ∷ LF ∷ []))
+    ∷ []
+    )
 unfolding ofBits toBits neg add sub mul div lt eq isNan magnitude signOf smaller larger squareRoot go repeated
     rotationOf pairTurned rowsTurned columnsTurned lineCopied lineCleared timesFrom largestOf scaled squaresOf
     reflectionOf rowTimes tailLess rowLess rowReflected reflectedRight rowAdded rowsAdded columnSums rowLessAll
@@ -73,4 +56,4 @@ unfolding ofBits toBits neg add sub mul div lt eq isNan magnitude signOf smaller
     outcome defaultTolerance defaultAbsolute defaultFloor _>>=_ when cut worth value decimal number pattern digit digits
     placesBy shown ending lineText countLine named entryLine rowLine short line andThen contents head body bodies
     reading hex rowText rowsText reportText refusedText outcomeText surveyText surveysText malformedText printed split
-example-refused = refl
+examples = refl
