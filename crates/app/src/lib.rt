@@ -27,7 +27,8 @@ ghost use Rattle.app.specs.Row.{partOf};
 
 // What a call answers. With number 8 the row and the column are those of the first reading that is
 // infinite or NaN, and `bad` is how many there are; with any other number the three are 0. The word is 0 in
-// a refusal before the run, 1 where the table settled and 2 where the walk stopped at its limit.
+// a refusal before the run, 1 where the table settled, 2 where the walk stopped at its limit and 3
+// where what it left is quiet.
 #[repr(C)]
 pub struct Answer {
     pub number: u64,

@@ -40,6 +40,9 @@ fn print_word(word: Word) {
         Word::Stopped => {
             io::write_all(1, b" stopped");
         }
+        Word::Quiet => {
+            io::write_all(1, b" quiet");
+        }
     }
 }
 

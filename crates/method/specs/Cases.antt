@@ -5,7 +5,7 @@ use mathlib.Core.Path.{_≡_, refl}
 use mathlib.Core.List.{List, [], _∷_, _++_, map}
 use Prim.Native.Nat.{ℕ}
 use lib.Ieee.{Float, binary64, neg, add, sub, mul, div, lt, eq, isNan, ofBits, toBits}
-use Rattle.method.specs.Floats.{magnitude, signOf, smaller, larger}
+use Rattle.method.specs.Floats.{magnitude, signOf, smaller, larger, isZero}
 use Rattle.method.specs.Root.{squareRoot}
 use Rattle.method.specs.Repeated.{go, repeated}
 use Rattle.method.specs.Work.{work}
@@ -17,6 +17,7 @@ use Rattle.method.specs.Reflection.{rowsLess, reflectedLeft}
 use Rattle.method.specs.Bidiagonal.{columnMatrix, rowMatrix, factorReflected, columnZeroed, rowZeroed}
 use Rattle.method.specs.Bidiagonal.{placesZeroed, bidiagonal}
 use Rattle.method.specs.Chase.{turned, singular, negligible, steps, swept}
+use Rattle.method.specs.Quiet.{quietCorner}
 use Rattle.method.specs.Walk.{pass, run}
 use Rattle.method.specs.Checks.{counted, looked, badReadings, firstOf}
 use Rattle.method.specs.Fill.{identity}
@@ -25,7 +26,7 @@ use Rattle.method.specs.Outcome.{accepted, outcome, plainOutcome, fullOu
 use Rattle.method.specs.Settings.{Settings}
 use Rattle.method.specs.Defaults.{defaultTolerance, defaultAbsolute, defaultFloor}
 
--- ---- answers as numbers: floats by their patterns, none 0, settled 1, stopped 2
+-- ---- answers as numbers: floats by their patterns, none 0, settled 1, stopped 2, quiet 3
 
 abbrev pub bits : List Float → List ℕ
 bits xs = map (toBits binary64) xs
@@ -121,16 +122,16 @@ fourteen =
     0 ∷ 1 ∷ 1 ∷ 0 ∷ 1 ∷ 1 ∷ 0xc000_0000_0000_0000 ∷ 0 ∷ 0 ∷ 0x3ff0_0000_0000_0000 ∷ 0xbff0_0000_0000_0000 ∷ 0 ∷ 0
     ∷ 0x3ff0_0000_0000_0000 ∷ []
     )
-    -- 2 x 2 zeros, limit 3: stopped, 3 passes, 3 sweeps, 0 drops, range 2, zeros
-    ∷ (0 ∷ 2 ∷ 3 ∷ 3 ∷ 0 ∷ 2 ∷ 0 ∷ 0 ∷ 0 ∷ 0 ∷ [])
+    -- 2 x 2 zeros, limit 3: quiet, 3 passes, 3 sweeps, 0 drops, range 2, zeros
+    ∷ (0 ∷ 3 ∷ 3 ∷ 3 ∷ 0 ∷ 2 ∷ 0 ∷ 0 ∷ 0 ∷ 0 ∷ [])
     ∷ []
 
 pub cases : (computed (ofBits binary64 0x0010_0000_0000_0000) ≡ fourteen) × (computed defaultFloor ≡ fourteen)
-unfolding ofBits toBits neg add sub mul div lt eq isNan magnitude signOf smaller larger squareRoot go repeated
-    rotationOf pairTurned rowsTurned columnsTurned lineCopied lineCleared timesFrom largestOf scaled squaresOf
+unfolding ofBits toBits neg add sub mul div lt eq isNan magnitude signOf smaller larger isZero squareRoot go
+    repeated rotationOf pairTurned rowsTurned columnsTurned lineCopied lineCleared timesFrom largestOf scaled squaresOf
     reflectionOf rowTimes tailLess rowLess rowReflected reflectedRight rowAdded rowsAdded columnSums rowLessAll
     rowLessTimes lowerLess rowsLess reflectedLeft columnMatrix rowMatrix factorReflected columnZeroed rowZeroed
-    placesZeroed bidiagonal turned singular negligible steps swept pass run counted looked badReadings firstOf accepted
+    placesZeroed bidiagonal turned singular negligible steps swept quietCorner pass run counted looked badReadings firstOf accepted
     outcome identity defaultTolerance defaultAbsolute defaultFloor
 cases = (refl, refl)
 
@@ -191,12 +192,12 @@ original =
     ∷ 0xbff0_0000_0000_0000 ∷ 0 ∷ 0 ∷ 0x3ff0_0000_0000_0000 ∷ 0x3ff0_0000_0000_0000 ∷ 0 ∷ 0 ∷ 0xbff0_0000_0000_0000 ∷
     [])
     -- 3 x 3, credit 1, limit 2: the drop pays its pass back, so there are 3 passes and not 2
-    ∷ (0 ∷ 2 ∷ 3 ∷ 2 ∷ 1 ∷ 2 ∷ 0 ∷ 0 ∷ 0 ∷ 0 ∷ 0 ∷ 0 ∷ 0 ∷ 0 ∷ 0x3ff0_0000_0000_0000 ∷ 0xbff0_0000_0000_0000
+    ∷ (0 ∷ 3 ∷ 3 ∷ 2 ∷ 1 ∷ 2 ∷ 0 ∷ 0 ∷ 0 ∷ 0 ∷ 0 ∷ 0 ∷ 0 ∷ 0 ∷ 0x3ff0_0000_0000_0000 ∷ 0xbff0_0000_0000_0000
     ∷ 0x8000_0000_0000_0000 ∷ 0 ∷ 0 ∷ 0xbff0_0000_0000_0000 ∷ 0 ∷ 0 ∷ 0 ∷ 0x3ff0_0000_0000_0000 ∷ 0xbff0_0000_0000_0000
     ∷ 0x8000_0000_0000_0000 ∷ 0 ∷ 0 ∷ 0xbff0_0000_0000_0000 ∷ 0 ∷ 0 ∷ 0 ∷ 0x3ff0_0000_0000_0000 ∷ [])
     -- 3 x 3, credit 1, limit 2: a sweep, a drop that lowers the counter from 2 to 1 and not to 0, and a sweep, so there
     -- are 3 passes and not 4
-    ∷ (0 ∷ 2 ∷ 3 ∷ 2 ∷ 1 ∷ 2 ∷ 0 ∷ 0 ∷ 0x8000_0000_0000_0000 ∷ 0 ∷ 0x3ff0_0000_0000_0000 ∷ 0 ∷ 0 ∷ 0
+    ∷ (0 ∷ 3 ∷ 3 ∷ 2 ∷ 1 ∷ 2 ∷ 0 ∷ 0 ∷ 0x8000_0000_0000_0000 ∷ 0 ∷ 0x3ff0_0000_0000_0000 ∷ 0 ∷ 0 ∷ 0
     ∷ 0xbff0_0000_0000_0000 ∷ 0 ∷ 0 ∷ 0xbff0_0000_0000_0000 ∷ 0 ∷ 0xbff0_0000_0000_0000 ∷ 0 ∷ 0x3ff0_0000_0000_0000
     ∷ 0 ∷ 0 ∷ 0 ∷ 0 ∷ 0x3ff0_0000_0000_0000 ∷ 0x3ff0_0000_0000_0000 ∷ 0 ∷ 0 ∷ 0 ∷ 0xbff0_0000_0000_0000
     ∷ 0x8000_0000_0000_0000 ∷ [])
@@ -222,10 +223,10 @@ original =
     ∷ []
 
 pub slips : shown ≡ original
-unfolding ofBits toBits neg add sub mul div lt eq isNan magnitude signOf smaller larger squareRoot go repeated
-    rotationOf pairTurned rowsTurned columnsTurned lineCopied lineCleared timesFrom largestOf scaled squaresOf
+unfolding ofBits toBits neg add sub mul div lt eq isNan magnitude signOf smaller larger isZero squareRoot go
+    repeated rotationOf pairTurned rowsTurned columnsTurned lineCopied lineCleared timesFrom largestOf scaled squaresOf
     reflectionOf rowTimes tailLess rowLess rowReflected reflectedRight rowAdded rowsAdded columnSums rowLessAll
     rowLessTimes lowerLess rowsLess reflectedLeft columnMatrix rowMatrix factorReflected columnZeroed rowZeroed
-    placesZeroed bidiagonal turned singular negligible steps swept pass run counted looked badReadings firstOf accepted
+    placesZeroed bidiagonal turned singular negligible steps swept quietCorner pass run counted looked badReadings firstOf accepted
     outcome identity defaultTolerance defaultAbsolute defaultFloor
 slips = refl

@@ -69,11 +69,16 @@ shiftAt f stride k a =
 abbrev pub coupling : Bool → ℕ → ℕ → List Float → Float
 coupling upper stride k a = along (not upper) stride (k + 1) k a
 
--- |coupling| is below the smaller of (|top left| + |bottom right|) * tolerance and the absolute bound
+-- the smaller of (|top left| + |bottom right|) * tolerance and the absolute bound
+abbrev pub dropBound : Format → Float → Float → ℕ → ℕ → List Float → Float
+dropBound f tolerance absolute stride k a =
+    let ends = add f (magnitude (at stride k k a)) (magnitude (at stride (k + 1) (k + 1) a)) in
+    smaller (mul f ends tolerance) absolute
+
+-- |coupling| is below it
 unfoldable pub negligible : Format → Float → Float → ℕ → Bool → ℕ → List Float → Bool
 negligible f tolerance absolute stride upper k a =
-    let ends = add f (magnitude (at stride k k a)) (magnitude (at stride (k + 1) (k + 1) a)) in
-    lt (magnitude (coupling upper stride k a)) (smaller (mul f ends tolerance) absolute)
+    lt (magnitude (coupling upper stride k a)) (dropBound f tolerance absolute stride k a)
 
 -- ---- a sweep
 

@@ -1,11 +1,13 @@
 -- The numbers that the method writes out, and four of its five helpers on floats: magnitude, sign, smaller and larger.
 -- (The fifth, the square root, is in Root.) They turn on no format: each hands back one of its arguments, its
--- magnitude, or 1 with its sign. Besides, whether the sign bit is set, and a float with another's sign. Definitions, and
--- that the patterns the code writes stand for these numbers. Assumes nothing.
+-- magnitude, or 1 with its sign. Besides, whether the sign bit is set, a float with another's sign, and whether a float
+-- is zero. Definitions, and that the patterns the code writes stand for these numbers. Assumes nothing.
 pub mod Laws
+pub mod Zero
 use mathlib.Core.Path.{_≡_, refl}
 use mathlib.Core.Bool.{Bool, true, false}
 use lib.IntN.{pos}
+use lib.Dec.{eqb}
 use lib.Ieee.{Float, nan, inf, fin, binary64, lt, isNan, neg, ofBits}
 
 -- +0, 1 and 2
@@ -40,6 +42,12 @@ unfoldable pub negative : Float → Bool
 negative nan = false
 negative (inf s) = s
 negative (fin s m e) = s
+
+-- whether x is +0 or -0
+unfoldable pub isZero : Float → Bool
+isZero nan = false
+isZero (inf s) = false
+isZero (fin s m e) = eqb m 0
 
 -- x, negated where d has its sign bit set
 abbrev pub signed : Float → Float → Float

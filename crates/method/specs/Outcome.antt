@@ -57,10 +57,12 @@ abbrev pub walkedFrom : Format → Shape → ℕ → ℕ → Settings → Work �
 walkedFrom f z rows cols s w =
     walked (rulesFor f z rows cols s) (s .limit) (s .credit) (card rows cols) (formOf f z rows cols s w)
 
+-- what is answered of the state that a run over a packed table came to: its report, and its lists
+abbrev pub shownBy : ℕ → ℕ → State Work → Outcome
+shownBy rows cols e = outcomeOf (reported (isUpper rows cols) cols e) (e .held)
+
 unfoldable pub accepted : Format → Bool → ℕ → ℕ → Settings → Work → Outcome
-accepted f kept rows cols s w =
-    let e = walkedFrom f (packed kept rows cols) rows cols s w in
-    outcomeOf (reported e) (e .held)
+accepted f kept rows cols s w = shownBy rows cols (walkedFrom f (packed kept rows cols) rows cols s w)
 
 -- ---- the calls
 

@@ -10,7 +10,7 @@ use Rattle.method.specs.Floats.{pick}
 use Rattle.method.specs.Work.{Work, work, packed}
 use Rattle.method.specs.Walk.Alike.{Alike}
 use Rattle.method.specs.Report.Words.{reported-same}
-use Rattle.method.specs.Outcome.{card, walkedFrom, accepted}
+use Rattle.method.specs.Outcome.{card, isUpper, walkedFrom, accepted}
 use Rattle.method.specs.Settings.{Settings}
 use Rattle.method.specs.Relation.{run-kept}
 use Rattle.method.specs.Relation.Parts.{Between, Parts, FactorKept, parts-kept, Equal, equal-kept, Any, any-kept}
@@ -48,4 +48,4 @@ accepted-agree f rows cols s w =
     let a = runs-agree f true false rows cols s w w′ refl in
     let e = walkedFrom f (packed true rows cols) rows cols s w in
     let e′ = walkedFrom f (packed false rows cols) rows cols s w′ in
-    (reported-same e e′ (a .walk) (a .held .matrix), a .held .matrix)
+    (reported-same (isUpper rows cols) cols e e′ (a .walk) (a .held .matrix), a .held .matrix)

@@ -8,6 +8,7 @@ pub mod Limits
 pub mod Alike
 pub mod Loop
 pub mod Applied
+pub mod Drops
 use Prim.Native.Nat.{ℕ, zero, suc, _+_, _-_, _*_}
 use mathlib.Core.Bool.{Bool, true, false, _&&_}
 use lib.Dec.{ltb}

@@ -58,6 +58,7 @@ fn is_settled(word: Word) -> bool
         Word::None => false,
         Word::Settled => true,
         Word::Stopped => false,
+        Word::Quiet => false,
     }
 }
 

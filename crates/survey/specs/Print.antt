@@ -6,7 +6,7 @@ use Prim.Native.Nat.{ℕ, zero, suc}
 use lib.Dec.{eqb}
 use lib.ListN.{take, drop}
 use lib.Ieee.{Float, binary64, toBits}
-use Rattle.method.specs.Report.{Word, none, settled, stopped, Report}
+use Rattle.method.specs.Report.{Word, none, settled, stopped, quiet, Report}
 use Rattle.method.specs.Outcome.{Outcome, plainOutcome}
 use Rattle.method.specs.Defaults.{defaults}
 use Rattle.text.specs.Text.{Bytes, digits, shown, lineText}
@@ -34,11 +34,12 @@ rowsText (suc r) c xs = rowText (take c xs) ++ rowsText r c (drop c xs)
 abbrev pub refusedWord : Bytes
 refusedWord = 114 ∷ 101 ∷ 102 ∷ 117 ∷ 115 ∷ 101 ∷ 100 ∷ []
 
--- `none`, `settled` and `stopped`
+-- `none`, `settled`, `stopped` and `quiet`
 abbrev pub wordText : Word → Bytes
 wordText none = 110 ∷ 111 ∷ 110 ∷ 101 ∷ []
 wordText settled = 115 ∷ 101 ∷ 116 ∷ 116 ∷ 108 ∷ 101 ∷ 100 ∷ []
 wordText stopped = 115 ∷ 116 ∷ 111 ∷ 112 ∷ 112 ∷ 101 ∷ 100 ∷ []
+wordText quiet = 113 ∷ 117 ∷ 105 ∷ 101 ∷ 116 ∷ []
 
 -- ---- a survey
 

@@ -10,7 +10,7 @@ use borrow.Author.Tests.{eqb-true, eqb-false}
 use lib.Dec.{eqb}
 use lib.Ieee.{Float, binary64}
 use lib.ListN.{length, length-append}
-use Rattle.method.specs.Report.{Word, none as noWord, settled, stopped}
+use Rattle.method.specs.Report.{Word, none as noWord, settled, stopped, quiet}
 use Rattle.method.specs.Outcome.{Outcome, plainOutcome}
 use Rattle.method.specs.Defaults.{defaults}
 use Rattle.survey.specs.declared.reading.Entry.{Entry}
@@ -48,6 +48,7 @@ word-most : (w : Word) → length (wordText w) ≤ 7
 word-most noWord = omega arith
 word-most settled = omega arith
 word-most stopped = omega arith
+word-most quiet = omega arith
 
 malformed-most : (n : ℕ) → n < 1000000 → length (malformedText n) ≤ 24
 unfolding malformedText

@@ -26,6 +26,7 @@ fn put_word(out: &mut [u8], at: usize, word: Word) -> usize
         Word::None => put(out, at, b" none"),
         Word::Settled => put(out, at, b" settled"),
         Word::Stopped => put(out, at, b" stopped"),
+        Word::Quiet => put(out, at, b" quiet"),
     }
 }
 

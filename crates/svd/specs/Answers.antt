@@ -15,7 +15,7 @@ use Rattle.checks.specs.Answers.{fromRefusal}
 use Rattle.svd.specs.declared.tally.Tally.{Tally}
 use Rattle.svd.specs.declared.report.Report.{Report}
 use Rattle.svd.specs.declared.report.Word.{Word}
-use Rattle.svd.specs.declared.report.Word.the-variants.{None, Settled, Stopped}
+use Rattle.svd.specs.declared.report.Word.the-variants.{None, Settled, Stopped, Quiet}
 use Rattle.svd.specs.Values.{wordIn, reportOf}
 
 -- ---- the report
@@ -25,11 +25,13 @@ abbrev fromWord : Report.Word → Word
 fromWord Report.none = None
 fromWord Report.settled = Settled
 fromWord Report.stopped = Stopped
+fromWord Report.quiet = Quiet
 
 from-word : (w : Word) → fromWord (wordIn w) ≡ w
 from-word None = refl
 from-word Settled = refl
 from-word Stopped = refl
+from-word Quiet = refl
 
 -- a word's number
 pub word-number-one : (w : Word) → OneAnswer (λ (r : ℕ). r ≡ Report.wordNumber (wordIn w))

@@ -11,13 +11,13 @@ use lib.Ieee.{Float, binary64}
 use Rattle.method.specs.Floats.{pick}
 use Rattle.method.specs.Work.{Work, Shape, work, packed}
 use Rattle.method.specs.Lengths.{SameLengths, outcome-lengths}
-use Rattle.method.specs.Walk.{Walk, State, stands}
+use Rattle.method.specs.Walk.{Walk, stands}
 use Rattle.method.specs.Settings.{Settings, mostSize}
 use Rattle.method.specs.Checks.{Refusal, refusalOf}
 use Rattle.method.specs.Checks.Table.{Fit, fit}
 use Rattle.method.specs.Report.{Report, refused, reported}
 use Rattle.method.specs.Report.Words.{reported-same}
-use Rattle.method.specs.Outcome.{Outcome, outcomeOf, card, walkedFrom, accepted, outcome}
+use Rattle.method.specs.Outcome.{Outcome, outcomeOf, shownBy, card, isUpper, walkedFrom, accepted, outcome}
 use Rattle.method.specs.Outcome.Refused.{refused-outcome, accepted-outcome}
 use Rattle.svd.specs.Values.{Lent, Lending, Inside}
 use native.Mathlib.Omega.{arith}
@@ -41,16 +41,15 @@ module _ (kept : Bool) (rows cols : ℕ) (s : Settings) (w : Work) where
       (r : Refusal) (report : Report) (last : Walk) (w′ : Work) →
       r ≡ refusalOf kept rows cols s w →
       r .number ≡ 0 →
-      report ≡ reported (stands last (work (w′ .matrix) [] [])) →
+      report ≡ reported (isUpper rows cols) cols (stands last (work (w′ .matrix) [] [])) →
       stands last w′ ≡ walkedFrom binary64 (packed kept rows cols) rows cols s w →
       outcomeOf report w′ ≡ outcome binary64 kept rows cols s w
   unfolding accepted
   accepted-call r report last w′ e none q d =
       let h : refusalOf kept rows cols s w .number ≡ 0 = ap (λ (x : Refusal). x .number) (sym e) ∙ none in
-      let told : report ≡ reported (stands last w′) =
-      q ∙ reported-same (stands last (work (w′ .matrix) [] [])) (stands last w′) refl refl in
-      rw (told, accepted-outcome binary64 kept rows cols s w h)
-      (ap (λ (x : State Work). outcomeOf (reported x) (x .held)) d)
+      let told : report ≡ reported (isUpper rows cols) cols (stands last w′) =
+      q ∙ reported-same (isUpper rows cols) cols (stands last (work (w′ .matrix) [] [])) (stands last w′) refl refl in
+      rw (told, accepted-outcome binary64 kept rows cols s w h) (ap (shownBy rows cols) d)
 
   -- what a call that is not refused may lean on
   pub call-fit : (r : Refusal) → r ≡ refusalOf kept rows cols s w → r .number ≡ 0 → Fit kept rows cols s w

@@ -9,22 +9,26 @@ use mathlib.Core.Logic.{_↔_}
 use mathlib.Core.Bool.{Bool, true, false}
 use mathlib.Core.List.{List, []}
 use Prim.Native.Nat.{ℕ, _+_, _-_, _*_, _≤_, _<_}
+use native.Mathlib.Omega.{arith}
 use lib.Ieee.{Float, binary64}
 use Rattle.float.specs.Root.{AnF64, RootIs, root-is}
 use Rattle.method.specs.Root.{squareRoot}
 use Rattle.method.specs.Work.{Work, work, packed}
 use Rattle.method.specs.Walk.{Rules, State, start, going, run}
 use Rattle.method.specs.Walk.Applied.{applied}
+use Rattle.method.specs.Walk.Drops.{tallyDown}
+use Rattle.method.specs.Quiet.{QuietCorner, BoundsAbove}
 use Rattle.method.specs.Settings.{mostLimit}
 use Rattle.method.specs.Checks.{nowhere, refusalOf}
 use Rattle.method.specs.Checks.First.{First}
 use Rattle.method.specs.Checks.Readings.{FirstBad}
 use Rattle.method.specs.Checks.Table.{meanings, numbers, none-counted}
 use Rattle.method.specs.Report as Report
-use Rattle.method.specs.Report.{refused, reported}
-use Rattle.method.specs.Outcome.{Outcome, outcomeOf, card, rulesFor, formOf, accepted, outcome}
+use Rattle.method.specs.Report.{refused}
+use Rattle.method.specs.Outcome.{Outcome, outcomeOf, shownBy, card, isUpper, rulesFor, formOf, accepted, outcome}
 use Rattle.method.specs.Outcome.{plainOutcome, fullOutcome}
-use Rattle.method.specs.Outcome.Reports.{accepted-exposed, atLimit}
+use Rattle.method.specs.Outcome.Reports.{accepted-exposed, atLimit, settledReport}
+use Rattle.method.specs.Outcome.Calls as Calls
 use Rattle.method.specs.Outcome.Calls.{calls-agree, settled-stays}
 use Rattle.method.specs.Fill.{identity}
 use Rattle.method.specs.View.{rowOf}
@@ -33,12 +37,13 @@ use Rattle.method.specs.Rows.Calls.{calls-own, calls-alone, calls-zero, calls-e
 use Rattle.checks.specs.declared.settings.Settings.{Settings}
 use Rattle.checks.specs.Values.{settingsOf, placeIn, refusalIn}
 use Rattle.svd.specs.declared.report.Report.{Report}
-use Rattle.svd.specs.declared.report.Word.the-variants.{Settled, Stopped}
+use Rattle.svd.specs.declared.report.Word.{Word}
+use Rattle.svd.specs.declared.report.Word.the-variants.{None, Settled, Stopped, Quiet}
 use Rattle.svd.specs.Values.{tallyOf, reportOf, wordIn}
 use Rattle.svd.specs.Answers.{report-one}
 use Rattle.svd.specs.Told.{reportsOf, listsOf, told-number, told-place, told-alone, told-refused, told-accepted}
-use Rattle.svd.specs.Told.{told-true, told-made, told-due, told-done}
-use Rattle.svd.specs.Told.{one-settled, settled-one, more-stopped, stopped-more, settled-fine}
+use Rattle.svd.specs.Told.{told-true, told-made, told-due, told-done, told-spent, told-word, told-says}
+use Rattle.svd.specs.Told.{worded-fine}
 
 -- ---- what a call may answer
 
@@ -62,9 +67,9 @@ module _ (rows cols : ℕ) (s : Settings) (r : Report) where
       Allowed false rows cols s (work b₀ [] []) r (work b [] [])
   plain-allowed b₀ b e = record { promise = e }
 
--- the report and the lists of a walk's state
-abbrev pub shownBy : State Work → Outcome
-shownBy e = outcomeOf (reported e) (e .held)
+-- what is left of the table is quiet: every coupling inside the corner of the range that is told
+abbrev pub still : ℕ → ℕ → Report → Work → Type 0
+still rows cols r w = QuietCorner (isUpper rows cols) cols (r .tally .range) (w .matrix)
 
 module _ (kept : Bool) (rows cols : ℕ) (s : Settings) (w₀ : Work) where
   -- where the definition's walk starts: with the bidiagonal form
@@ -104,7 +109,7 @@ module _ (kept : Bool) (rows cols : ℕ) (s : Settings) (w₀ : Work) (r : Repor
     pub exposed :
         s .credit ≡ 0 → (n : ℕ) → s .limit ≤ n →
         outcomeOf (reportOf r) w ≡
-        shownBy (run (rules kept rows cols s w₀) n 0 (s .limit) (first kept rows cols s w₀))
+        shownBy rows cols (run (rules kept rows cols s w₀) n 0 (s .limit) (first kept rows cols s w₀))
 
   -- (and of the root: `demand-2-root` below)
 
@@ -126,19 +131,22 @@ module _ (kept : Bool) (rows cols : ℕ) (s : Settings) (w₀ : Work) (r : Repor
     -- none when c is 1, otherwise at most the limit plus the credit times (c - 2)
     pub none : card rows cols ≡ 1 → r .tally .passes ≡ 0
     pub most : r .tally .passes ≤ s .limit + s .credit * (card rows cols - 2)
-    -- `settled` says that the range left is 1, `stopped` that it is more
+    -- `settled` says that the range left is 1; where it is more, the limit ran out: `quiet` says that then every coupling
+    -- inside the live corner of that range is +0 or -0, `stopped` that one is not
     pub settled : (r .word ≡ Settled) ↔ (r .tally .range ≡ 1)
-    pub stopped : (r .word ≡ Stopped) ↔ (1 < r .tally .range)
+    pub spent : 1 < r .tally .range → s .limit ≤ after kept rows cols s w₀ (r .tally .passes) .walk .counter
+    pub quiet : (r .word ≡ Quiet) ↔ ((1 < r .tally .range) × still rows cols r w)
+    pub stopped : (r .word ≡ Stopped) ↔ ((1 < r .tally .range) × (¬ still rows cols r w))
 
 -- ---- they hold of every answer
 
 shown :
     (kept : Bool) (rows cols : ℕ) (s : Settings) (w₀ : Work) → s .credit ≡ 0 → (n : ℕ) → s .limit ≤ n →
     accepted binary64 kept rows cols (settingsOf s) w₀ ≡
-    shownBy (run (rules kept rows cols s w₀) n 0 (s .limit) (first kept rows cols s w₀))
+    shownBy rows cols (run (rules kept rows cols s w₀) n 0 (s .limit) (first kept rows cols s w₀))
 unfolding accepted
 shown kept rows cols s w₀ z n h =
-    ap shownBy (accepted-exposed binary64 kept rows cols (settingsOf s) w₀ (s .limit) n h z)
+    ap (shownBy rows cols) (accepted-exposed binary64 kept rows cols (settingsOf s) w₀ (s .limit) n h z)
 
 module _ {kept : Bool} {rows cols : ℕ} {s : Settings} {w₀ : Work} {r : Report} {w : Work} where
   pub demand-1 : Allowed kept rows cols s w₀ r w → Demand1 kept rows cols s w₀ r w
@@ -162,6 +170,7 @@ module _ {kept : Bool} {rows cols : ℕ} {s : Settings} {w₀ : Work} {r : Repor
   pub demand-3 : Allowed kept rows cols s w₀ r w → r .refusal .number ≡ 0 → Demand3 kept rows cols s w₀ r w
   demand-3 a e =
       let t = told-true kept rows cols s w₀ r w (a .promise) e in
+      let word = told-word kept rows cols s w₀ r w (a .promise) e in
       record {
         made = told-made kept rows cols s w₀ r w (a .promise) e;
         due = told-due kept rows cols s w₀ r w (a .promise) e;
@@ -171,10 +180,10 @@ module _ {kept : Bool} {rows cols : ℕ} {s : Settings} {w₀ : Work} {r : Repor
         range = t .range;
         none = t .none;
         most = t .few;
-        settled =
-            (settled-one kept rows cols s w₀ r w (a .promise) e, one-settled kept rows cols s w₀ r w (a .promise) e);
-        stopped =
-            (stopped-more kept rows cols s w₀ r w (a .promise) e, more-stopped kept rows cols s w₀ r w (a .promise) e);
+        settled = told-says kept rows cols s w₀ r w (a .promise) e Settled (word .settled);
+        spent = told-spent kept rows cols s w₀ r w (a .promise) e;
+        quiet = told-says kept rows cols s w₀ r w (a .promise) e Quiet (word .quiet);
+        stopped = told-says kept rows cols s w₀ r w (a .promise) e Stopped (word .stopped);
       }
 
 -- The square root, of every f64 x and every answer r that the promise of `float::square_root` allows: where x is above
@@ -202,6 +211,10 @@ kept-or-not {rows} {cols} {s} {b₀} {u₀} {v₀} {r = r} {r′ = r′} a a′ 
       ap matrix (listsOf (a .promise)) ∙ q .1 ∙ sym (ap matrix (listsOf (a′ .promise))),
     )
 
+-- a word that is none of `none`'s number is not `none`
+none-apart : {w : Word} (v : Word) → w ≡ v → w ≡ None → (Report.wordNumber (wordIn v) ≡ 0 → ⊥) → ⊥
+none-apart v e q differ = differ (ap (λ (x : Word). Report.wordNumber (wordIn x)) (sym e ∙ q))
+
 -- a settled answer is, U and V included, the same answer at every greater allowed limit n, all else equal
 pub settled-stands :
     {kept : Bool} {rows cols n : ℕ} {s s′ : Settings} {w₀ w w′ : Work} {r r′ : Report} →
@@ -214,11 +227,47 @@ pub settled-stands :
     (r′ ≡ r) × (w′ ≡ w)
 settled-stands {kept} {rows} {cols} {n} {s} {s′} {w₀} {w} {w′} {r} {r′} a a′ g more most e =
     let p = a .promise in
-    let fine = told-fine a (settled-fine kept rows cols s w₀ r w p e) in
+    let fine = told-fine a (worded-fine kept rows cols s w₀ r w p (λ q. none-apart Settled e q (λ z. omega arith))) in
     let word = ap (λ (x : Report.Report). x .word) (sym (reportsOf p)) ∙ ap wordIn e in
     let same = settled-stays binary64 kept rows cols (settingsOf s) w₀ n more most fine word in
     let q = rw g at (a′ .promise) ∙ same ∙ sym p in
     (report-one r′ r (reportsOf q), listsOf q)
+
+-- the law of the definition, of an outcome that equals its own
+settles :
+    (kept : Bool) (rows cols : ℕ) (s : Settings) (w₀ : Work) (n : ℕ) →
+    s .limit < n →
+    n ≤ mostLimit →
+    (o : Outcome) → o ≡ outcome binary64 kept rows cols (settingsOf s) w₀ →
+    let t = o .report .tally in
+    (s .credit ≡ 0 → s .limit + (t .range - 1) ≤ n) →
+    refusalOf kept rows cols (settingsOf s) w₀ .number ≡ 0 →
+    o .report .word ≡ Report.quiet →
+    BoundsAbove binary64 (s .tolerance) (s .absolute) cols (t .range) (o .held .matrix) →
+    outcome binary64 kept rows cols (atLimit n (settingsOf s)) w₀ ≡ outcomeOf (settledReport (tallyDown t)) (o .held)
+settles kept rows cols s w₀ n more most o p =
+    rw p (Calls.quiet-settles binary64 kept rows cols (settingsOf s) w₀ n more most)
+
+-- A quiet answer is not final. Where every bound inside its corner is above zero, a greater allowed limit n settles it by
+-- drops alone, one for each coupling inside: table, U and V stay as they are, bit for bit. (A coupling of zero is dropped
+-- exactly where its bound is above zero: method's Quiet.Drops, `zero-negligible`.)
+pub quiet-settles :
+    {kept : Bool} {rows cols n : ℕ} {s s′ : Settings} {w₀ w w′ : Work} {r r′ : Report} →
+    Allowed kept rows cols s w₀ r w →
+    Allowed kept rows cols s′ w₀ r′ w′ →
+    settingsOf s′ ≡ atLimit n (settingsOf s) →
+    s .limit < n →
+    n ≤ mostLimit →
+    (s .credit ≡ 0 → s .limit + (r .tally .range - 1) ≤ n) →
+    r .word ≡ Quiet →
+    BoundsAbove binary64 (s .tolerance) (s .absolute) cols (r .tally .range) (w .matrix) →
+    (reportOf r′ ≡ settledReport (tallyDown (tallyOf (r .tally)))) × (w′ ≡ w)
+quiet-settles {kept} {rows} {cols} {n} {s} {s′} {w₀} {w} {w′} {r} {r′} a a′ g more most room e above =
+    let p = a .promise in
+    let fine = told-fine a (worded-fine kept rows cols s w₀ r w p (λ q. none-apart Quiet e q (λ z. omega arith))) in
+    let q = rw g at (a′ .promise)
+    ∙ settles kept rows cols s w₀ n more most _ p room fine (ap wordIn e) above in
+    (reportsOf q, listsOf q)
 
 -- ---- each station keeps its own row, and each pass (method's Rows)
 

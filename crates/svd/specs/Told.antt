@@ -1,28 +1,31 @@
 -- What an answer that a call's promise allows is made of: the refusal that it tells, and the run that it comes from.
 -- Assumes nothing.
-use mathlib.Core.Path.{_≡_, refl, sym, ap, _∙_}
+use mathlib.Core.Path.{_≡_, refl, sym, ap, subst, _∙_}
+use mathlib.Core.Logic.{_↔_, ⊎-elim}
 use mathlib.Core.Bool.{Bool, true, false}
-use Prim.Native.Nat.{ℕ, _<_}
+use Prim.Native.Nat.{ℕ, _≤_, _<_}
 use native.Mathlib.Omega.{arith}
-use lib.Dec.{ltb, eqb}
+use lib.Dec.{eqb}
 use lib.Ieee.{binary64}
-use borrow.Author.Tests.{ltb-true, ltb-false, eqb-true, eqb-false}
+use borrow.Author.Tests.{eqb-true, eqb-false}
 use Rattle.method.specs.Work.{Work, packed}
 use Rattle.method.specs.Walk.{Tally, State, start, going}
+use Rattle.method.specs.Walk.Run.{ended}
 use Rattle.method.specs.Walk.Applied.{applied, Applied, walked-applied}
 use Rattle.method.specs.Checks as Checks
 use Rattle.method.specs.Checks.{refusalOf}
 use Rattle.method.specs.Checks.Table.{TruePlace, true-place, fit}
 use Rattle.method.specs.Report as Report
 use Rattle.method.specs.Report.{refused}
-use Rattle.method.specs.Outcome.{Outcome, outcomeOf, card, rulesFor, formOf, walkedFrom, accepted, outcome}
+use Rattle.method.specs.Outcome.{Outcome, outcomeOf, card, isUpper, rulesFor, formOf, walkedFrom, accepted, outcome}
 use Rattle.method.specs.Outcome.Refused.{refused-outcome, accepted-outcome, outcome-refusal, outcome-number}
-use Rattle.method.specs.Outcome.Reports.{TrueReport, accepted-true}
+use Rattle.method.specs.Report.Words.{TrueWord}
+use Rattle.method.specs.Outcome.Reports.{TrueReport, accepted-true, accepted-word}
 use Rattle.checks.specs.declared.settings.Settings.{Settings}
 use Rattle.checks.specs.Values.{settingsOf, refusalIn}
 use Rattle.svd.specs.declared.report.Report.{Report}
 use Rattle.svd.specs.declared.report.Word.{Word}
-use Rattle.svd.specs.declared.report.Word.the-variants.{None, Settled, Stopped}
+use Rattle.svd.specs.declared.report.Word.the-variants.{None}
 use Rattle.svd.specs.Values.{tallyOf, wordIn, reportOf}
 use Rattle.svd.specs.Answers.{word-one}
 
@@ -32,10 +35,6 @@ reportsOf e = ap (λ (o : Outcome). o .report) e
 
 abbrev pub listsOf : {o o′ : Outcome} → o ≡ o′ → o .held ≡ o′ .held
 listsOf e = ap (λ (o : Outcome). o .held) e
-
--- by their numbers the words differ
-abbrev numbered : Word → ℕ
-numbered w = Report.wordNumber (wordIn w)
 
 module _ (kept : Bool) (rows cols : ℕ) (s : Settings) (w₀ : Work) (r : Report) (w : Work) where
   abbrev found : Checks.Refusal
@@ -88,15 +87,15 @@ module _ (kept : Bool) (rows cols : ℕ) (s : Settings) (w₀ : Work) (r : Repor
         let q = reportsOf (told-refused h) in
         q ∙ ap refused (sym (ap (λ (x : Report.Report). x .refusal) q))
 
-    -- what is settled was not refused
-    pub settled-fine : r .word ≡ Settled → r .refusal .number ≡ 0
-    settled-fine e = go (eqb (r .refusal .number) 0) refl
+    -- what has a word was not refused
+    pub worded-fine : ¬ (r .word ≡ None) → r .refusal .number ≡ 0
+    worded-fine h = go (eqb (r .refusal .number) 0) refl
       where
         go : (t : Bool) → eqb (r .refusal .number) 0 ≡ t → r .refusal .number ≡ 0
         go true t = eqb-true _ 0 t
         go false t =
-            let q = word-one (r .word) None (ap (λ (x : Report.Report). x .word) (told-alone (eqb-false _ 0 t))) in
-            absurd (let z : 1 ≡ 0 = ap numbered (sym e ∙ q) in omega (arith, z))
+            absurd
+            (h (word-one (r .word) None (ap (λ (x : Report.Report). x .word) (told-alone (eqb-false _ 0 t)))))
 
     module _ (e : r .refusal .number ≡ 0) where
       -- the report of an accepted run is true
@@ -130,24 +129,22 @@ module _ (kept : Bool) (rows cols : ℕ) (s : Settings) (w₀ : Work) (r : Repor
       pub told-done : going (s .limit) (passed (r .tally .passes) .walk) ≡ false
       told-done = rw (told-passes, ← made .counted) (made .ended)
 
-      pub one-settled : r .tally .range ≡ 1 → r .word ≡ Settled
-      one-settled q = word-one (r .word) Settled (told-true .settled q)
+      -- where more than 1 is left, the limit ran out
+      pub told-spent : 1 < r .tally .range → s .limit ≤ passed (r .tally .passes) .walk .counter
+      told-spent h =
+          let k = passed (r .tally .passes) .walk in
+          let range = ap (λ (t : Tally). t .range) (told-made .0) in
+          ⊎-elim (λ l. absurd (let z : ⊥ = omega (arith, range) in z)) (λ l. l) (ended (s .limit) k told-done)
 
-      pub more-stopped : 1 < r .tally .range → r .word ≡ Stopped
-      more-stopped q = word-one (r .word) Stopped (told-true .stopped q)
+      -- the word is true of the range and of the table that is left
+      pub told-word : TrueWord (isUpper rows cols) cols (r .tally .range) (w .matrix) (wordIn (r .word))
+      told-word =
+          let k = fit kept rows cols (settingsOf s) w₀ (sym told-number ∙ e) in
+          subst
+          (λ (o : Outcome). TrueWord (isUpper rows cols) cols (o .report .tally .range) (o .held .matrix) (o .report .word))
+          (sym (told-accepted e))
+          (accepted-word binary64 kept rows cols (settingsOf s) w₀ (k .rows-some) (k .cols-some))
 
-      pub settled-one : r .word ≡ Settled → r .tally .range ≡ 1
-      settled-one q = go (ltb 1 (r .tally .range)) refl
-        where
-          go : (b : Bool) → ltb 1 (r .tally .range) ≡ b → r .tally .range ≡ 1
-          go true t = absurd (let z : 1 ≡ 2 = ap numbered (sym q ∙ more-stopped (ltb-true _ _ t)) in omega (arith, z))
-          go false t = omega (arith, told-true .range .0, ltb-false 1 (r .tally .range) t)
-
-      pub stopped-more : r .word ≡ Stopped → 1 < r .tally .range
-      stopped-more q = go (ltb 1 (r .tally .range)) refl
-        where
-          go : (b : Bool) → ltb 1 (r .tally .range) ≡ b → 1 < r .tally .range
-          go true t = ltb-true _ _ t
-          go false t =
-              let i : r .tally .range ≡ 1 = omega (arith, told-true .range .0, ltb-false 1 (r .tally .range) t) in
-              absurd (let z : 2 ≡ 1 = ap numbered (sym q ∙ one-settled i) in omega (arith, z))
+      -- so word by word
+      pub told-says : {A : Type 0} (v : Word) → (wordIn (r .word) ≡ wordIn v) ↔ A → (r .word ≡ v) ↔ A
+      told-says v says = (λ q. says .0 (ap wordIn q), λ a. word-one (r .word) v (says .1 a))

@@ -22,7 +22,7 @@ use Rattle.checks.specs.Values.{refusalIn}
 use Rattle.svd.specs.declared.givens.Rotation.{Rotation}
 use Rattle.svd.specs.declared.report.Report.{Report}
 use Rattle.svd.specs.declared.report.Word.{Word}
-use Rattle.svd.specs.declared.report.Word.the-variants.{None, Settled, Stopped}
+use Rattle.svd.specs.declared.report.Word.the-variants.{None, Settled, Stopped, Quiet}
 use Rattle.svd.specs.declared.shape.Shape.{Shape}
 use Rattle.svd.specs.declared.tally.Tally.{Tally}
 use Rattle.svd.specs.declared.primitives.Corner.{Corner}
@@ -57,6 +57,7 @@ abbrev pub wordIn : Word → Report.Word
 wordIn None = Report.none
 wordIn Settled = Report.settled
 wordIn Stopped = Report.stopped
+wordIn Quiet = Report.quiet
 
 -- the report
 abbrev pub reportOf : Report → Report.Report

@@ -11,11 +11,13 @@ use crate::tally::Tally;
 use checks::refusal::Refusal;
 
 // None goes with a refusal. Settled: one entry of the diagonal is left, every coupling was found
-// negligible. Stopped: the limit ran out before.
+// negligible. Where more are left, the limit ran out: quiet where every coupling inside the live
+// corner is +0 or -0, and else stopped.
 pub enum Word {
     None,
     Settled,
     Stopped,
+    Quiet,
 }
 
 impl Word {
@@ -27,6 +29,7 @@ impl Word {
             Word::None => 0,
             Word::Settled => 1,
             Word::Stopped => 2,
+            Word::Quiet => 3,
         }
     }
 }
@@ -51,16 +54,19 @@ impl Report {
         }
     }
 
-    // The report of the state that a walk came to: its record, and the table as it stands, of which
-    // the word says nothing today.
-    pub(crate) fn accepted(walk: Walk, b: &[f64]) -> Report
-        ensures { λ r. ⌜ reportOf r ≡ reported (stands (walkOf walk) (work (now (b .entry)) [] [])) ⌝ }
+    // The report of the state that a walk came to: its record, and the table as it stands, whose rows
+    // start `stride` entries apart.
+    pub(crate) fn accepted(walk: Walk, b: &[f64], stride: usize, upper: bool) -> Report
+        ensures { λ r. ⌜ reportOf r ≡
+            reported upper stride (stands (walkOf walk) (work (now (b .entry)) [] [])) ⌝ }
     {
         let refusal = Refusal::by(0);
         let tally = walk.tally;
         let mut word = Word::Stopped;
         if tally.range == 1 {
             word = Word::Settled;
+        } else if corner::is_quiet(b, stride, upper, tally.range) {
+            word = Word::Quiet;
         }
         Report {
             refusal: refusal,

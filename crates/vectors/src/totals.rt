@@ -12,6 +12,7 @@ pub(crate) struct Totals {
     refused: u64,
     settled: u64,
     stopped: u64,
+    quiet: u64,
     passes: u64,
     in_order: u64,
 }
@@ -37,6 +38,7 @@ impl Totals {
             refused: 0,
             settled: 0,
             stopped: 0,
+            quiet: 0,
             passes: 0,
             in_order: 0,
         }
@@ -91,6 +93,9 @@ impl Totals {
             Word::Stopped => {
                 self.stopped = plus(self.stopped, 1);
             }
+            Word::Quiet => {
+                self.quiet = plus(self.quiet, 1);
+            }
         }
         self
     }
@@ -100,14 +105,15 @@ impl Totals {
         self.scored(wrong, false).ended()
     }
 
-    // A line such as "9 runs: 2 refused, 4 settled, 3 stopped, 70 passes, 3 in order, 0 differ; 5
-    // wrong on purpose, 5 found".
+    // A line such as "9 runs: 2 refused, 4 settled, 2 stopped, 1 quiet, 70 passes, 3 in order, 0
+    // differ; 5 wrong on purpose, 5 found".
     pub(crate) fn print(self) {
         let score = self.score;
         print(score.right, b" runs: ");
         print(self.refused, b" refused, ");
         print(self.settled, b" settled, ");
         print(self.stopped, b" stopped, ");
+        print(self.quiet, b" quiet, ");
         print(self.passes, b" passes, ");
         print(self.in_order, b" in order, ");
         print(score.differ, b" differ; ");

@@ -24,7 +24,7 @@ use Rattle.method.specs.Checks.First.{none-refused}
 use Rattle.method.specs.Checks.Table.{sizeMeanings, lengthMeanings, settingMeanings, readingMeanings}
 use Rattle.method.specs.Checks.Table.{size-tests, length-tests, setting-tests, reading-tests}
 use Rattle.method.specs.Checks.Table.{TruePlace, true-place, Fit, fit}
-use Rattle.method.specs.Report.{Word, none, settled, stopped, isSettled, wordNumber}
+use Rattle.method.specs.Report.{Word, none, settled, stopped, quiet, isSettled, wordNumber}
 use Rattle.method.specs.Outcome.{Outcome, card, accepted}
 use Rattle.method.specs.Outcome.Refused.{accepted-refusal, accepted-number}
 use Rattle.method.specs.Order.{diagonal}
@@ -72,6 +72,7 @@ pub settled-says : (w : Word) → Says (isSettled w) (w ≡ settled)
 settled-says none = (λ e. absurd (false≢true e), λ e. absurd (let z : 0 ≡ 1 = ap wordNumber e in omega (arith, z)))
 settled-says settled = (λ e. refl, λ e. refl)
 settled-says stopped = (λ e. absurd (false≢true e), λ e. absurd (let z : 2 ≡ 1 = ap wordNumber e in omega (arith, z)))
+settled-says quiet = (λ e. absurd (false≢true e), λ e. absurd (let z : 3 ≡ 1 = ap wordNumber e in omega (arith, z)))
 
 -- the smaller of rows and columns is the columns where they are at most the rows, else the rows
 pub card-cols : (rows cols : ℕ) → cols ≤ rows → cols ≡ card rows cols

@@ -1,23 +1,26 @@
 -- The report's laws as laws of the calls, refusals counted in: what the accumulating call accepts the plain call
--- accepts, with the same report and matrix; and a settled answer is the same answer at every greater allowed limit.
--- Assumes nothing.
+-- accepts, with the same report and matrix; a settled answer is the same answer at every greater allowed limit; and when
+-- a quiet one settles there. Assumes nothing.
 use mathlib.Core.Path.{_≡_}
 use mathlib.Core.Logic.{_⊎_, inl, inr}
 use mathlib.Core.Bool.{Bool, true, false, false≢true}
 use mathlib.Core.List.{[]}
-use Prim.Native.Nat.{ℕ, _≤_, _<_}
+use Prim.Native.Nat.{ℕ, _+_, _-_, _≤_, _<_}
 use native.Mathlib.Nat.{le-trans}
 use native.Mathlib.Omega.{arith}
 use lib.Ieee.{Format}
 use Rattle.method.specs.Work.{Work, work}
 use Rattle.method.specs.Walk.Counts.{enough-most}
 use Rattle.method.specs.Checks.{refusalOf}
-use Rattle.method.specs.Report.{settled}
-use Rattle.method.specs.Outcome.{outcome, plainOutcome, fullOutcome}
+use Rattle.method.specs.Walk.Drops.{tallyDown}
+use Rattle.method.specs.Quiet.{BoundsAbove}
+use Rattle.method.specs.Report.{settled, quiet}
+use Rattle.method.specs.Outcome.{outcomeOf, outcome, plainOutcome, fullOutcome}
 use Rattle.method.specs.Settings.{Settings, mostLimit, mostCredit, mostPasses}
 use Rattle.method.specs.Checks.Table.{clear, fit}
 use Rattle.method.specs.Outcome.Refused.{accepted-outcome}
-use Rattle.method.specs.Outcome.Reports.{accepted-true, accepted-settled, atLimit, card-most}
+use Rattle.method.specs.Outcome.Reports.{accepted-true, accepted-settled, accepted-quiet, settledReport, atLimit}
+use Rattle.method.specs.Outcome.Reports.{card-most}
 use Rattle.method.specs.Same.{accepted-agree}
 
 -- the plain call asks less than the accumulating one
@@ -81,6 +84,25 @@ settled-stays f kept rows cols s w n h most e q =
       accepted-outcome f kept rows cols s w e,
     )
     (accepted-settled f kept rows cols s w n h (rw (accepted-outcome f kept rows cols s w e) at q))
+
+-- A quiet answer is not final: where every bound inside its corner is above zero, it settles at a greater allowed limit
+-- by drops alone, one for each coupling inside, and table, U and V stay as they are.
+pub quiet-settles :
+    (f : Format) (kept : Bool) (rows cols : ℕ) (s : Settings) (w : Work) (n : ℕ) →
+    let o = outcome f kept rows cols s w in
+    let t = o .report .tally in
+    s .limit < n →
+    n ≤ mostLimit →
+    (s .credit ≡ 0 → s .limit + (t .range - 1) ≤ n) →
+    refusalOf kept rows cols s w .number ≡ 0 →
+    o .report .word ≡ quiet →
+    BoundsAbove f (s .tolerance) (s .absolute) cols (t .range) (o .held .matrix) →
+    outcome f kept rows cols (atLimit n s) w ≡ outcomeOf (settledReport (tallyDown t)) (o .held)
+quiet-settles f kept rows cols s w n more most room e q above =
+    let k = fit kept rows cols s w e in
+    let a = accepted-outcome f kept rows cols s w e in
+    rw (accepted-outcome f kept rows cols (atLimit n s) w (limit-accepts kept rows cols s w n most e), a)
+    (accepted-quiet f kept rows cols s w n (k .rows-some) (k .cols-some) more (rw a at room) (rw a at q) (rw a at above))
 
 -- the passes of an accepted run are at most `mostPasses`
 pub passes-most :

@@ -1,6 +1,6 @@
--- The report is true: what every accepted run reports, that the factors change neither report nor matrix, that a
--- settled answer is the same at every greater limit, and that at credit 0 each limit shows the state after as many
--- passes. Assumes nothing.
+-- The report is true: what every accepted run reports, its word included, that a settled answer is the same at every
+-- greater limit, when a quiet one settles there, and that at credit 0 each limit shows the state after as many passes.
+-- Assumes nothing.
 use mathlib.Core.Path.{_≡_, refl, ap}
 use mathlib.Core.Logic.{_⊎_, inl, inr}
 use mathlib.Core.Bool.{Bool, true, false}
@@ -12,14 +12,17 @@ use lib.Ieee.{Format}
 use borrow.Author.Tests.{leb-true, leb-false}
 use Rattle.method.specs.Floats.{pick}
 use Rattle.method.specs.Work.{Work, packed}
-use Rattle.method.specs.Walk.{Walk, State, start, run}
+use Rattle.method.specs.Walk.{Tally, State, start, run}
 use Rattle.method.specs.Walk.Counts.{WholeWalk, whole-walk}
 use Rattle.method.specs.Walk.Limits as Limits
 use Rattle.method.specs.Walk.Applied.{applied, walked-applied}
-use Rattle.method.specs.Checks.{nowhere}
-use Rattle.method.specs.Report.{settled, stopped, Report}
-use Rattle.method.specs.Report.Words.{settled-one, one-settled, more-stopped}
-use Rattle.method.specs.Outcome.{card, rulesFor, formOf, walkedFrom, accepted}
+use Rattle.method.specs.Walk.Drops.{tallyDown, walked-down}
+use Rattle.method.specs.Quiet.{BoundsAbove}
+use Rattle.method.specs.Quiet.Drops.{quiet-drops}
+use Rattle.method.specs.Checks.{nowhere, notRefused}
+use Rattle.method.specs.Report.{settled, quiet, Report}
+use Rattle.method.specs.Report.Words.{TrueWord, settled-one, word-true}
+use Rattle.method.specs.Outcome.{outcomeOf, card, isUpper, rulesFor, formOf, walkedFrom, accepted}
 use Rattle.method.specs.Settings.{Settings, mostSize}
 
 -- ---- what every accepted run reports, over a diagonal of c entries
@@ -32,8 +35,6 @@ pub record TrueReport (s : Settings) (c : ℕ) (r : Report) : Type 0 where
   pub range : (1 ≤ r .tally .range) × (r .tally .range ≤ c)
   pub few : r .tally .passes ≤ s .limit + s .credit * (c - 2)
   pub none : c ≡ 1 → r .tally .passes ≡ 0
-  pub settled : r .tally .range ≡ 1 → r .word ≡ settled
-  pub stopped : 1 < r .tally .range → r .word ≡ stopped
 
 -- the smaller of rows and columns: 1 or more where both are, at most each, and at most the most of each
 pub card-some : (rows cols : ℕ) → 1 ≤ rows → 1 ≤ cols → 1 ≤ card rows cols
@@ -79,9 +80,15 @@ module _ (f : Format) (kept : Bool) (rows cols : ℕ) (s : Settings) (w : Work) 
         range = k .range;
         few = k .few;
         none = λ e. k .none (omega (arith, e));
-        settled = λ e. one-settled ends e;
-        stopped = λ m. more-stopped ends m;
       }
+
+  -- and so is its word, of the range that it reports and the table that it leaves
+  pub accepted-word :
+      1 ≤ rows → 1 ≤ cols →
+      let o = accepted f kept rows cols s w in
+      TrueWord (isUpper rows cols) cols (o .report .tally .range) (o .held .matrix) (o .report .word)
+  unfolding accepted
+  accepted-word h g = word-true (isUpper rows cols) cols ends (true-walk h g .range .0)
 
   -- the run has ended by itself: one is left, or the counter is at the limit
   pub accepted-ended : 1 ≤ rows → 1 ≤ cols → (ends .walk .tally .range ≡ 1) ⊎ (s .limit ≤ ends .walk .counter)
@@ -114,6 +121,10 @@ abbrev pub atLimit : ℕ → Settings → Settings
 atLimit n s =
     record { limit = n; credit = s .credit; tolerance = s .tolerance; absolute = s .absolute; floor = s .floor }
 
+-- the report of a run that settled with these counts
+abbrev pub settledReport : Tally → Report
+settledReport t = record { refusal = notRefused; word = settled; tally = t }
+
 module _ (f : Format) (kept : Bool) (rows cols : ℕ) (s : Settings) (w : Work) where
   -- a settled run is the same run at every greater limit
   pub accepted-settled :
@@ -124,8 +135,31 @@ module _ (f : Format) (kept : Bool) (rows cols : ℕ) (s : Settings) (w : Work) 
       let z = packed kept rows cols in
       let q : walkedFrom f z rows cols (atLimit n s) w ≡ walkedFrom f z rows cols s w =
       Limits.settled (rulesFor f z rows cols s) (s .credit) h (card rows cols) _
-      (le-of-eq (settled-one (walkedFrom f z rows cols s w) e)) in
+      (le-of-eq (settled-one (isUpper rows cols) cols (walkedFrom f z rows cols s w) e)) in
       rw q
+
+  -- A quiet run, every bound inside its corner above zero, settles by drops alone at a greater limit n, one for each
+  -- coupling inside: table and factors stay as they are. Without credit the limit must be greater by as many.
+  pub accepted-quiet :
+      (n : ℕ) → 1 ≤ rows → 1 ≤ cols → s .limit < n →
+      let o = accepted f kept rows cols s w in
+      let t = o .report .tally in
+      (s .credit ≡ 0 → s .limit + (t .range - 1) ≤ n) →
+      o .report .word ≡ quiet →
+      BoundsAbove f (s .tolerance) (s .absolute) cols (t .range) (o .held .matrix) →
+      accepted f kept rows cols (atLimit n s) w ≡ outcomeOf (settledReport (tallyDown t)) (o .held)
+  unfolding accepted
+  accepted-quiet n h g more room e above =
+      let z = packed kept rows cols in
+      let upper = isUpper rows cols in
+      let here = walkedFrom f z rows cols s w in
+      let there = walkedFrom f z rows cols (atLimit n s) w in
+      let still = accepted-word f kept rows cols s w h g .quiet .0 e in
+      let down = walked-down (rulesFor f z rows cols s) (s .limit) n (s .credit) (card rows cols) _ (still .0) more room
+      (quiet-drops f (s .tolerance) (s .absolute) z upper _ (here .held) (still .1) above) in
+      let one : there .walk .tally .range ≡ 1 = ap (λ (t : Tally). t .range) (down .counted) in
+      let word = word-true upper cols there (omega arith) .settled .1 one in
+      rw (word, down .counted, down .held)
 
   -- at credit 0 the limit k shows the state after k passes: the run of any greater limit n, cut off after k
   pub accepted-exposed :

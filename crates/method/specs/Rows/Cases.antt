@@ -4,7 +4,7 @@ use mathlib.Core.Path.{_≡_, refl}
 use mathlib.Core.List.{List, [], _∷_}
 use Prim.Native.Nat.{ℕ}
 use lib.Ieee.{binary64, neg, add, sub, mul, div, lt, eq, isNan, ofBits, toBits}
-use Rattle.method.specs.Floats.{magnitude, signOf, smaller, larger}
+use Rattle.method.specs.Floats.{magnitude, signOf, smaller, larger, isZero}
 use Rattle.method.specs.Root.{squareRoot}
 use Rattle.method.specs.Repeated.{go, repeated}
 use Rattle.method.specs.Work.{work}
@@ -16,6 +16,7 @@ use Rattle.method.specs.Reflection.{rowsLess, reflectedLeft}
 use Rattle.method.specs.Bidiagonal.{columnMatrix, rowMatrix, factorReflected, columnZeroed, rowZeroed}
 use Rattle.method.specs.Bidiagonal.{placesZeroed, bidiagonal}
 use Rattle.method.specs.Chase.{turned, singular, negligible, steps, swept}
+use Rattle.method.specs.Quiet.{quietCorner}
 use Rattle.method.specs.Walk.{pass, run}
 use Rattle.method.specs.Checks.{counted, looked, badReadings, firstOf}
 use Rattle.method.specs.Fill.{identity}
@@ -46,10 +47,10 @@ known =
     ∷ []
 
 pub zero-row-cases : computed ≡ known
-unfolding ofBits toBits neg add sub mul div lt eq isNan magnitude signOf smaller larger squareRoot go repeated
-    rotationOf pairTurned rowsTurned columnsTurned lineCopied lineCleared timesFrom largestOf scaled squaresOf
+unfolding ofBits toBits neg add sub mul div lt eq isNan magnitude signOf smaller larger isZero squareRoot go
+    repeated rotationOf pairTurned rowsTurned columnsTurned lineCopied lineCleared timesFrom largestOf scaled squaresOf
     reflectionOf rowTimes tailLess rowLess rowReflected reflectedRight rowAdded rowsAdded columnSums rowLessAll
     rowLessTimes lowerLess rowsLess reflectedLeft columnMatrix rowMatrix factorReflected columnZeroed rowZeroed
-    placesZeroed bidiagonal turned singular negligible steps swept pass run counted looked badReadings firstOf accepted
+    placesZeroed bidiagonal turned singular negligible steps swept quietCorner pass run counted looked badReadings firstOf accepted
     outcome identity defaultTolerance defaultAbsolute defaultFloor
 zero-row-cases = refl

@@ -15,7 +15,7 @@ use Rattle.method.specs.Settings.{Settings}
 use Rattle.method.specs.Rotation.{pairTurned}
 use Rattle.method.specs.Reflection.{rowReflected}
 use Rattle.method.specs.Report.Words.{reported-same}
-use Rattle.method.specs.Outcome.{card, walkedFrom, accepted}
+use Rattle.method.specs.Outcome.{card, isUpper, walkedFrom, accepted}
 use Rattle.method.specs.Outcome.Reports.{card-some, card-le}
 use Rattle.method.specs.Lengths.{walkedFrom-lengths}
 use Rattle.method.specs.Relation.{run-kept}
@@ -90,7 +90,7 @@ module _ (f : Format) (rows cols : ℕ) (s : Settings) (h : 1 ≤ rows) (g : 1 �
       let a = runs-agree f true true rows cols s w w′ m in
       let e = walkedFrom f (packed true rows cols) rows cols s w in
       let e′ = walkedFrom f (packed true rows cols) rows cols s w′ in
-      (reported-same e e′ (a .walk) (a .held .matrix), record { matrix = a .held .matrix; row = own })
+      (reported-same (isUpper rows cols) cols e e′ (a .walk) (a .held .matrix), record { matrix = a .held .matrix; row = own })
     where
       own :
           (side : Side) (i j : ℕ) → i < sizeOf side rows cols → j < sizeOf side rows cols →
