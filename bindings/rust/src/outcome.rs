@@ -156,3 +156,21 @@ pub(crate) fn outcome(answer: Answer) -> Result<Report, Refusal> {
         }),
     }
 }
+
+#[cfg(test)]
+mod tests {
+    use super::*;
+
+    // Each word has its report, and a word that there is not is taken for none of them.
+    #[test]
+    fn words() {
+        let said =
+            |word| report(Answer { word, passes: 4, range: 2, ..Answer::default() }).to_string();
+        assert_eq!(said(Answer::SETTLED), "settled, passes 4");
+        assert_eq!(said(Answer::STOPPED), "stopped, passes 4, range left 2");
+        assert_eq!(said(Answer::QUIET), "quiet, passes 4, range left 2");
+        for word in [0, 4, u64::MAX] {
+            assert!(std::panic::catch_unwind(|| said(word)).is_err());
+        }
+    }
+}
