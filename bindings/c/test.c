@@ -516,6 +516,10 @@ static void quiet(void) {
     set(&a, (double[]){0, 3, 1, 3});
     a.limit = 1;
     CHECK(plain(&a)->word == MEROTUNKI_QUIET && bits(a.matrix[1]) == 0 && a.matrix[2] == -0x1p-54);
+    /* quiet is not final: with a bound of 0 the next sweep of the same table leaves a coupling, 2^-51.4 */
+    a.limit = 2, a.tolerance = 0;
+    set(&a, (double[]){0, 3, 1, 3});
+    CHECK(plain(&a) && answered(&a, MEROTUNKI_STOPPED, 2, 2, 0, 2) && a.matrix[1] > 0x1p-52 && a.matrix[1] < 0x1p-51);
     /* drawn tables of many shapes, and how often each word came, in either form */
     size_t met[2][4] = {{0}};
     for (size_t i = 0; i < 4000; i++) {
