@@ -118,6 +118,8 @@ class TestMerotunki extends Checks {
         double least = Double.MIN_VALUE;
         ended(new double[] {1.0, least, 0.0, 1.0}, 2, 2, none, "stopped, passes 0, range left 2", 0, 0, 2);
         ended(new double[] {1.0, 0.0, 0.0, least, 1.0, 0.0}, 2, 3, none, "stopped, passes 0, range left 2", 0, 0, 2);
+        // NaN is not 0
+        ended(new double[] {1e160, 1e160, 0.0, 1e160}, 2, 2, PLAIN, "stopped, passes 100, range left 2", 100, 0, 2);
         // behind the corner nothing is asked
         double[] behind = {1.0, 0.0, 0.0, 0.0, 2.0, 1e-13, 0.0, 0.0, 4.0};
         ended(behind, 3, 3, PLAIN.withLimit(1).withCredit(0), "quiet, passes 1, range left 2", 0, 1, 2);

@@ -81,6 +81,11 @@ fn quiet_or_stopped() {
     assert_eq!(ended(&last, 3, 3, 0, 50), stopped(0, 0, 0, 3));
     assert_eq!(ended(&[1.0, 5e-324, 0.0, 1.0], 2, 2, 0, 50), stopped(0, 0, 0, 2));
     assert_eq!(ended(&[1.0, 0.0, 0.0, 5e-324, 1.0, 0.0], 2, 3, 0, 50), stopped(0, 0, 0, 2));
+    // NaN is not 0
+    let mut large = [1e160, 1e160, 0.0, 1e160];
+    let report = Table::new(&mut large, 2, 2).unwrap().split(&Settings::default());
+    assert_eq!(report, Ok(stopped(100, 100, 0, 2)));
+    assert!(large[1].is_nan());
     // behind the corner nothing is asked
     let behind = [1.0, 0.0, 0.0, 0.0, 2.0, 1e-13, 0.0, 0.0, 4.0];
     assert_eq!(ended(&behind, 3, 3, 1, 0), quiet(1, 0, 1, 2));
