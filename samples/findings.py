@@ -36,15 +36,15 @@ class Finding:
     """What the split says of a table. `values` are the strengths, greatest first, none where they are not final;
     `reached` are these or what a run that stopped or is quiet had come to. Where `shown` holds the strongest part s1 u1
     v1' is to be shown: `profile` is s1 u1 times the mean of v1 in m/s, `drift` is v1 against its mean in percent, `rest`
-    is what it leaves of the readings. Else `reason` or `remedy` says why not. `quiet` is the run's word, and `calm` a
-    table of zeros."""
+    is what it leaves of the readings. Else `reason` or `remedy` says why not. `quiet` says that this is the run's word,
+    `sure` that the readings confirm all that a quiet run had reached, `calm` that every reading is zero."""
 
     def __init__(self, table):
         self.table, self.rows, self.names = table, table.rows, table.names()
         self.m, self.n = len(self.rows), len(self.rows[0])
         self.unit = max(abs(x) for row in self.rows for x in row)
         self.answer, self.values, matrix, u, v = split(self.rows)
-        self.reached, self.reason, self.quantity, self.leak = self.values, "", None, None
+        self.reached, self.reason, self.quantity, self.leak, self.sure = self.values, "", None, None, False
         self.quiet, self.calm = WORDS[self.answer.word] == "quiet", not any(x for row in self.rows for x in row)
         if self.answer.number not in (0, BAD, NOT_SETTLED, NOT_FINITE):
             raise Fault(f"the library refused the call with number {self.answer.number}")
@@ -113,6 +113,7 @@ class Finding:
         return math.hypot(*off)
 
     def fits(self, part, strongest):
+        """Whether a part is one of the readings, measured by the strongest."""
         return self.miss(*part) <= 1e-10 * abs(strongest / self.unit)
 
     def verdict(self):
@@ -147,10 +148,10 @@ class Finding:
 
     def idle(self):
         """What to do with stations and passes that read zero throughout, where there are some."""
-        many = [(sum(not any(line) for line in lines), thing) for lines, thing in
-                ((self.rows, "station"), (zip(*self.rows), "pass"))]
-        read, them = ("reads", "it") if sum(number for number, _ in many) == 1 else ("read", "them")
-        words = " and ".join(count(number, thing) for number, thing in many if number)
+        found = [(sum(not any(line) for line in lines), thing) for lines, thing in
+                 ((self.rows, "station"), (zip(*self.rows), "pass"))]
+        read, them = ("reads", "it") if sum(many for many, _ in found) == 1 else ("read", "them")
+        words = " and ".join(count(many, thing) for many, thing in found if many)
         return [f"{words} {read} zero throughout: leave {them} out and split again."] if words else []
 
     def culprit(self):

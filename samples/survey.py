@@ -82,8 +82,7 @@ def title(found):
 
 
 def top(found, headline):
-    """The title, the sizes and a headline or none, in red where the split failed: a quiet run did not. And where they
-    end."""
+    """The title, the sizes and a headline or none, red but for a quiet run, which is no failure; and where they end."""
     out, y = [], 12
     for line in wrapped(title(found), 20):
         out.append(text(24, y := y + 26, line, "title"))

@@ -15,7 +15,8 @@ public final class Report {
         /**
          * The limit ran out before, and every coupling that is left is +0 or -0: nothing was left to work out, but the
          * method's own test did not call it done. It is no failure, and not final: at a greater limit the answer can be
-         * another. A table of zeros ends so: "Calm: no air moved at any station. There is nothing to split."
+         * another. A table of zeros ends so: show "Calm: no air moved at any station. There is nothing to split." Of
+         * another one show "Quiet: nothing is left to work out, but the values are not final."
          */
         QUIET("quiet");
 
