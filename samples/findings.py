@@ -2,11 +2,13 @@
 import math
 
 from drawing import number
-from library import split
+from library import WORDS, split
 from tables import Fault
 
-# The numbers of a split that a survey can come to: a bad reading, a run that stopped, a value that is not finite.
-BAD, STOPPED, NOT_FINITE = 8, 12, 13
+# The numbers of a split that a survey can come to: a bad reading, a run that did not settle, a value that is not finite.
+BAD, NOT_SETTLED, NOT_FINITE = 8, 12, 13
+# What is said of a table of zeros, whatever its run's word.
+CALM = "Calm: no air moved at any station. There is nothing to split."
 
 
 def count(many, thing):
@@ -32,30 +34,36 @@ def share_words(percent):
 
 class Finding:
     """What the split says of a table. `values` are the strengths, greatest first, none where they are not final;
-    `reached` are these or what a run that stopped had come to. Where `shown` holds the strongest part s1 u1 v1' is to
-    be shown: `profile` is s1 u1 times the mean of v1 in m/s, `drift` is v1 against its mean in percent, `rest` is what
-    it leaves of the readings. Else `reason` or `remedy` says why not."""
+    `reached` are these or what a run that stopped or is quiet had come to. Where `shown` holds the strongest part s1 u1
+    v1' is to be shown: `profile` is s1 u1 times the mean of v1 in m/s, `drift` is v1 against its mean in percent, `rest`
+    is what it leaves of the readings. Else `reason` or `remedy` says why not. `quiet` says that this is the run's word,
+    `sure` that the readings confirm all that a quiet run had reached, `calm` that every reading is zero."""
 
     def __init__(self, table):
         self.table, self.rows, self.names = table, table.rows, table.names()
         self.m, self.n = len(self.rows), len(self.rows[0])
+        self.unit = max(abs(x) for row in self.rows for x in row)
         self.answer, self.values, matrix, u, v = split(self.rows)
-        self.reached, self.reason, self.quantity, self.leak = self.values, "", None, None
-        if self.answer.number not in (0, BAD, STOPPED, NOT_FINITE):
+        self.reached, self.reason, self.quantity, self.leak, self.sure = self.values, "", None, None, False
+        self.quiet, self.calm = WORDS[self.answer.word] == "quiet", not any(x for row in self.rows for x in row)
+        if self.answer.number not in (0, BAD, NOT_SETTLED, NOT_FINITE):
             raise Fault(f"the library refused the call with number {self.answer.number}")
         if self.answer.number == 0:
             self.take(self.values[0], [row[0] for row in u], [row[0] for row in v])
-        if self.answer.number == STOPPED:
+        if self.answer.number == NOT_SETTLED:
             # No list was written. What the run had reached stands on the diagonal, in no order and of either sign.
             reached = sorted(((matrix[k][k], k) for k in range(min(self.m, self.n))), key=lambda x: -abs(x[0]))
-            self.reached, (s, k) = [abs(x) for x, _ in reached], reached[0]
-            self.take(s, [row[k] for row in u], [row[k] for row in v])
+            parts = [(s, [row[k] for row in u], [row[k] for row in v]) for s, k in reached]
+            self.reached = [] if self.calm else [abs(s) for s, _ in reached]
+            self.take(*parts[0])
+            # of a quiet run the others may be shown as well where each of them, too, is a part of the readings
+            self.sure = self.quiet and not self.reason and all(self.fits(part, parts[0][0]) for part in parts)
         self.refused = self.answer.number in (BAD, NOT_FINITE)
         self.shown = not self.refused and not self.reason
 
     def take(self, s, u1, v1):
         """The strongest part, or the reason why it is not shown."""
-        huge = max(abs(x) for row in self.rows for x in row) > 1e9
+        huge = self.unit > 1e9
         if huge or not all(map(math.isfinite, [s, *u1, *v1])):
             why = "A reading above 1e9 m/s is no air speed" if huge else "What the method reached is no number"
             self.reason = f"{why}, so neither profile nor drift is shown."
@@ -78,26 +86,35 @@ class Finding:
         # A run that stopped can have found its strongest part all the same: large tables stop over their smallest
         # values. Or its greatest entry is nothing at all: a first pass of zeros leaves one that is off by much. The
         # word does not tell which, but the table does. (s, u1, v1) is a part of it when T v1 = s u1 and T' u1 = s v1,
-        # and then no other part is stronger if all that is left over together is smaller than s. After a stop it is
-        # shown only when both hold. After settling the first is asked as well, as a check; the list has the order.
-        # Readings are measured by the greatest of them, so that the squares of tiny ones do not vanish.
-        stopped, unit = self.answer.number == STOPPED, max(abs(x) for row in self.rows for x in row)
+        # and then no other part is stronger if all that is left over together is smaller than s. After a run that
+        # stopped or is quiet it is shown only when both hold. After settling the first is asked as well, as a check; the
+        # list has the order.
+        unsettled, size = self.answer.number == NOT_SETTLED, s / (self.unit or 1)
         if s == 0:
-            return f"Every {'number it had reached' if unit else 'reading'} is zero, so there is no profile to show."
-        rows, size = [[x / unit for x in row] for row in self.rows], s / unit
-        off = [math.fsum(x * b for x, b in zip(row, v1)) - size * a for row, a in zip(rows, u1)]
-        off += [math.fsum(x * a for x, a in zip(column, u1)) - size * b for column, b in zip(zip(*rows), v1)]
-        miss = math.hypot(*off)
-        first, name = ([row[0] for row in rows], "pass") if self.n <= self.m else (rows[0], "station")
-        zeros = stopped and not any(first)
+            return CALM if self.calm else "Every number it had reached is zero, so there is no profile to show."
+        first, name = ([row[0] for row in self.rows], "pass") if self.n <= self.m else (self.rows[0], "station")
+        zeros = unsettled and not any(first)
         advice = f" The first {name} reads zero throughout: leave it out and split again." if zeros else ""
-        if not miss <= 1e-10 * abs(size):
+        if not self.fits((s, u1, v1), s):
+            miss = self.miss(s, u1, v1)
             by = f"{rough(100 * miss / abs(size))} %" if miss < 10 * abs(size) else "more than 1000 %"
             return (f"The greatest number it had reached, {number(abs(s), 3)}, does not fit the readings: it misses by {by}. "
                     f"So neither profile nor drift is shown.{advice}")
-        if stopped and not math.hypot(*(x / unit for row in self.rest for x in row)) < abs(size):
+        if unsettled and not math.hypot(*(x / self.unit for row in self.rest for x in row)) < abs(size):
             return f"What the strongest part leaves over may hold a stronger one, so no profile is shown.{advice}"
         return ""
+
+    def miss(self, s, u, v):
+        """The length of (T v - s u, T' u - s v), T being the readings: next to 0 where (s, u, v) is a part of them. They are
+        measured by the greatest of them, so that the squares of tiny ones do not vanish."""
+        rows, size = [[x / self.unit for x in row] for row in self.rows], s / self.unit
+        off = [math.fsum(x * b for x, b in zip(row, v)) - size * a for row, a in zip(rows, u)]
+        off += [math.fsum(x * a for x, a in zip(column, u)) - size * b for column, b in zip(zip(*rows), v)]
+        return math.hypot(*off)
+
+    def fits(self, part, strongest):
+        """Whether a part is one of the readings, measured by the strongest."""
+        return self.miss(*part) <= 1e-10 * abs(strongest / self.unit)
 
     def verdict(self):
         """The answer in a surveyor's words. `Passes` are his walks, so what the method makes is told as turns."""
@@ -109,10 +126,33 @@ class Finding:
         if self.answer.number == NOT_FINITE:
             return ("Refused, number 13: a value is not finite. "
                     f"The largest reading, that of {self.culprit()}, is too large.")
-        if self.answer.number == STOPPED:
+        if self.answer.number == NOT_SETTLED and self.quiet:
+            return CALM if self.calm else "Quiet: nothing is left to work out, but the values are not final."
+        if self.answer.number == NOT_SETTLED:
             return ("The run stopped: values are not final. The method ran out of turns before it was done "
                     f"({count(self.answer.passes, 'turn')}).")
         return "Settled: the split is final."
+
+    def still(self):
+        """Why a run is quiet and not settled."""
+        return (f"After {count(self.answer.passes, 'turn')} every coupling that is left is zero: the run is quiet. The "
+                "method\u2019s own test does not call it settled: beside zeros its bound is zero, too, and zero is not "
+                "below it.")
+
+    def unfinished(self):
+        """The sentences for a run that did not settle."""
+        if self.calm:
+            return [self.still()]
+        said = [self.reason or self.confirmed(), self.strengths()]
+        return [self.still()] + said + self.idle() if self.quiet else said
+
+    def idle(self):
+        """What to do with stations and passes that read zero throughout, where there are some."""
+        found = [(sum(not any(line) for line in lines), thing) for lines, thing in
+                 ((self.rows, "station"), (zip(*self.rows), "pass"))]
+        read, them = ("reads", "it") if sum(many for many, _ in found) == 1 else ("read", "them")
+        words = " and ".join(count(many, thing) for many, thing in found if many)
+        return [f"{words} {read} zero throughout: leave {them} out and split again."] if words else []
 
     def culprit(self):
         """The station and pass of the reading that a refusal is about: the first bad one, or else the largest."""
@@ -132,8 +172,9 @@ class Finding:
         return f"{what} Read {which} again, or leave {left} out."
 
     def confirmed(self):
-        """Why a run that stopped is shown."""
-        return ("The strongest part is shown all the same, because the readings T confirm it: T v1 = s1 u1 and "
+        """Why a run that did not settle is shown."""
+        how = "as it stands" if self.quiet else "all the same"
+        return (f"The strongest part is shown {how}, because the readings T confirm it: T v1 = s1 u1 and "
                 "T\u2032 u1 = s1 v1, and all that is left over together is weaker.")
 
     def shares(self):
@@ -148,12 +189,13 @@ class Finding:
         return [(number(s, 3), share) for s, share in zip(self.values, shares)][:10]
 
     def strengths(self):
-        """A sentence with the strengths. Of a run that stopped they are not known."""
+        """A sentence with the strengths. Of a run that did not settle they are not known."""
         more = f" and {len(self.reached) - 10} smaller" if len(self.reached) > 10 else ""
         if self.values:
             listed = ", ".join(f"{s} ({share})" if share else s for s, share in self.listed())
             return f"Strengths, greatest first, each with its share of the readings\u2019 sum of squares: {listed}{more}."
-        which = "not to be read as strengths" if self.reason else "only the first is known to be a strength"
+        which = ("not to be read as strengths" if self.reason else "each confirmed by the readings, but not final" if self.sure
+                 else "only the first is known to be a strength")
         listed = ", ".join(number(s, 3) for s in self.reached[:10])
         return f"The numbers it had reached, greatest first, {which}: {listed}{more}."
 

@@ -6,6 +6,7 @@ from tables import Fault
 
 LIBRARY = pathlib.Path(__file__).resolve().parent.parent / "target/native/libmerotunki.so"
 LAYOUT = 2  # of the structs below; the library says which one it has
+WORDS = "none", "settled", "stopped", "quiet"  # an answer's word, by its number
 
 
 class Answer(ctypes.Structure):

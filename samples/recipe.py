@@ -1,7 +1,7 @@
 #!/usr/bin/env python3
 """Makes the sample tables of this folder. Each table's head says by which rule its numbers are made; this is that rule.
 
-    python3 samples/recipe.py            writes the five tables anew, the same bytes each time
+    python3 samples/recipe.py            writes the six tables anew, the same bytes each time
     python3 samples/recipe.py longest    prints the longest survey text that is well formed
 """
 import pathlib
@@ -83,6 +83,15 @@ def fan_off():
           rule, readings(velocity, fan, 0.03))
 
 
+def calm():
+    write("calm", 106, "A calm roadway",
+          ["Two dead-air stations and nothing else: 0.00 on every pass. No air moved, so there is nothing to split.",
+           "The split is quiet: every coupling is zero, and the limit runs out."],
+          "# Made by samples/recipe.py, not measured. Every reading is 0.00,\n"
+          "#   and at station 1 on passes 1 and 3 the instrument shows -0.00, a breath of backflow\n",
+          [["0.00"] * 5, ["0.00", "-0.00"] * 2 + ["0.00"]])
+
+
 def longest():
     """The longest well-formed survey text, 313,442 bytes: eight surveys of 48 x 48 with ids of five digits."""
     import tables
@@ -100,5 +109,5 @@ def longest():
 if __name__ == "__main__" and sys.argv[1:] == ["longest"]:
     print(longest(), end="")
 elif __name__ == "__main__":
-    for make in (leaking_stopping, dead_air, bad_reading, fan_off):
+    for make in (leaking_stopping, dead_air, bad_reading, fan_off, calm):
         make()

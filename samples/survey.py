@@ -33,14 +33,13 @@ def sizes(found):
 # The pictures
 
 def caption(found):
-    """What the picture says: a warning or none, and the sentences under it."""
+    """What the picture says: a headline or none, and the sentences under it."""
     if found.refused:
         return found.verdict(), [found.remedy() + " Below are the readings as they came in.", found.rows_note()]
-    notes = [found.reason] if found.reason else []
     if found.values:
-        notes.insert(0, f"{found.verdict()} {found.strengths()}")
+        notes = [f"{found.verdict()} {found.strengths()}"] + ([found.reason] if found.reason else [])
     else:
-        notes += ([] if found.reason else [found.confirmed()]) + [found.strengths()]
+        notes = found.unfinished()
     if found.leak:
         notes.append(found.leak.sentence())
     if found.shown:
@@ -82,14 +81,14 @@ def title(found):
     return found.table.title or "A survey"
 
 
-def top(found, warning):
-    """The title, the sizes and a warning or none; and where they end."""
+def top(found, headline):
+    """The title, the sizes and a headline or none, red but for a quiet run, which is no failure; and where they end."""
     out, y = [], 12
     for line in wrapped(title(found), 20):
         out.append(text(24, y := y + 26, line, "title"))
     out.append(text(24, y := y + 22, sizes(found), "soft"))
-    for line in wrapped(warning, 14) if warning else []:
-        out.append(text(24, y := y + 28, line, "head warn"))
+    for line in wrapped(headline, 14) if headline else []:
+        out.append(text(24, y := y + 28, line, "head" if found.quiet else "head warn"))
     return out, y
 
 
@@ -101,8 +100,8 @@ def sentences(notes, y):
 
 def picture(table):
     found = Finding(table)
-    warning, notes = caption(found)
-    out, y = top(found, warning)
+    headline, notes = caption(found)
+    out, y = top(found, headline)
     if found.shown:
         drawn, y = panels(found, y + 98)
         said, y = sentences(notes, y + 14)
@@ -117,7 +116,8 @@ def values(table):
     found = Finding(table)
     out, y = top(found, "" if found.values else found.verdict())
     if not found.values:
-        notes = [found.remedy()] if found.refused else [found.strengths(), found.reason]
+        notes = [] if found.refused or found.calm else [found.strengths(), found.reason]
+        notes = [found.remedy() if found.refused else found.still() if found.quiet else ""] + notes
         said, y = sentences(filter(None, notes), y + 4)
         return page(title(found), out + said, y + 28)
     y, shares = y + 116, found.shares()
@@ -184,7 +184,7 @@ def show(table):
     elif found.values:
         parts = [head, [found.verdict()] + ([found.reason] if found.reason else []), strengths(found)]
     else:
-        parts = [head, [found.verdict(), found.reason or found.confirmed(), found.strengths()]]
+        parts = [head, [found.verdict()] + found.unfinished()]
     if found.shown:
         parts += [profile(found)] + ([[found.leak.sentence()]] if found.leak else [])
         drift = [(str(j), number(x, 1, "+")) for j, x in enumerate(found.drift)]

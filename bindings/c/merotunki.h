@@ -19,7 +19,7 @@
  *   6  the limit is above 100,000 or the credit above 1,000
  *   7  tolerance or absolute is below zero, infinite or NaN (-0 is allowed), or floor is not above zero or not finite
  *   8  a reading is infinite or NaN: `row` and `column` are the first one's station and pass, `bad` counts them all
- *  12  the run stopped, so that its values are not final
+ *  12  the run did not settle: it stopped or is quiet, so that its values are not final
  *  13  the run settled, and a value on the diagonal is infinite or NaN
  * 11, 12 and 13 are merotunki_ordered_svd's alone. 12 and 13 are the one exception to what a refusal writes: they come
  * after the run, so matrix, U and V are as the run leaves them, and the answer has the run's word and counts. The list
@@ -54,7 +54,7 @@ extern "C" {
 
 /* The version of library and header, and the number of the layout of the structs below. The layout rises whenever a
  * struct changes, so that a program built for one is not run on another. */
-#define MEROTUNKI_VERSION "0.4.0"
+#define MEROTUNKI_VERSION "0.5.0"
 #define MEROTUNKI_LAYOUT 2
 
 /* The largest number of rows and of columns, and the largest limit and credit. */
@@ -62,10 +62,14 @@ extern "C" {
 #define MEROTUNKI_MOST_LIMIT 100000
 #define MEROTUNKI_MOST_CREDIT 1000
 
-/* The words of an answer. */
+/* The words of an answer. The couplings are the entries beside the diagonal, right of it where columns is at most rows,
+ * else below it; the live corner, which is the first `range` rows and columns, has range - 1 of them. A settled answer
+ * is the same at every greater limit. One that stopped or is quiet is not final: a greater limit can give another. */
 #define MEROTUNKI_NONE 0    /* refused, and nothing was run */
 #define MEROTUNKI_SETTLED 1 /* every coupling was found negligible; range is 1 */
-#define MEROTUNKI_STOPPED 2 /* the limit ran out before; range is above 1. Read the values with that in mind. */
+#define MEROTUNKI_STOPPED 2 /* the limit ran out before; range is above 1, and a coupling of the live corner is not 0 */
+#define MEROTUNKI_QUIET 3   /* the limit ran out before; range is above 1, and every coupling of the live corner is +0
+                             * or -0: nothing was left to work out. No failure, a table of zeros ends so. */
 
 /* The sides of merotunki_row. */
 #define MEROTUNKI_U 0
@@ -78,7 +82,7 @@ typedef struct merotunki_answer {
     uint64_t row;    /* station of the first reading that is infinite or NaN, row by row, counted from 0 */
     uint64_t column; /* its pass, counted from 0 */
     uint64_t bad;    /* how many such readings the whole matrix has, the first one too */
-    uint64_t word;   /* MEROTUNKI_NONE, MEROTUNKI_SETTLED or MEROTUNKI_STOPPED */
+    uint64_t word;   /* MEROTUNKI_NONE, MEROTUNKI_SETTLED, MEROTUNKI_STOPPED or MEROTUNKI_QUIET */
     uint64_t passes; /* of the walk: each is a sweep or a drop */
     uint64_t sweeps;
     uint64_t drops;
@@ -110,8 +114,8 @@ typedef char merotunki_length_has_8_bytes[sizeof(size_t) == 8 && sizeof(double) 
 merotunki_choice *merotunki_defaults(merotunki_choice *choice);
 
 /* Splits the table. The matrix then holds what the method leaves: its values on the diagonal, matrix[k * columns + k],
- * in no order and of either sign; beside them may stay what the method found negligible and, where it stopped, what it
- * did not. Passes are none where rows or columns is 1, otherwise at most
+ * in no order and of either sign; beside them may stay what the method found negligible and, where it did not settle,
+ * what it did not. Passes are none where rows or columns is 1, otherwise at most
  * limit + credit * (the smaller of rows and columns - 2). Refuses with 1, 2, 3, 6, 7, 8. */
 merotunki_answer *merotunki_svd(merotunki_answer *answer, double *matrix, size_t matrix_length, size_t rows,
                                 size_t columns, size_t limit, size_t credit, double tolerance, double absolute,

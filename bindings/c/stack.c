@@ -3,7 +3,7 @@
  * A thread runs on a stack that this program lends it. Before a call the free part is painted; after it the deepest
  * byte that lost its paint is found. The same is done with a function of the same arguments that does nothing, and the
  * difference is the call's own use, that of all it calls included. The most over all cases is printed: tables that
- * settle, that stop and that are refused, 48 x 48 and others. What a call reserves and never writes is not seen. */
+ * settle, stop, are quiet and are refused, 48 x 48 and others. What a call reserves and never writes is not seen. */
 #include "merotunki.h"
 
 #include <math.h>

@@ -283,15 +283,18 @@ static void known(void) {
     prepare(&a, 2, 2);
     set(&a, (double[]){2, 0, 0, 1});
     a.limit = 0;
-    CHECK(plain(&a) && answered(&a, MEROTUNKI_STOPPED, 0, 0, 0, 2) && a.matrix[0] == -2);
+    CHECK(plain(&a) && answered(&a, MEROTUNKI_QUIET, 0, 0, 0, 2) && a.matrix[0] == -2);
     prepare(&a, 2, 2);
     set(&a, (double[]){0, 0, 0, 0});
     a.limit = 3;
-    CHECK(full(&a) && answered(&a, MEROTUNKI_STOPPED, 3, 3, 0, 2) && same(a.matrix, (double[4]){0}, 4));
+    CHECK(full(&a) && answered(&a, MEROTUNKI_QUIET, 3, 3, 0, 2) && same(a.matrix, (double[4]){0}, 4));
     CHECK(same(a.u, (double[]){-0.0, 1, -1, -0.0}, 4) && same(a.v, (double[]){-0.0, 1, -1, -0.0}, 4));
-    prepare(&a, 3, 3);
+    prepare(&a, 3, 3); /* the first sweep leaves 3, 0, 0 and no coupling, and beside two zeros none is negligible */
     set(&a, (double[]){1, 1, 1, 1, 1, 1, 1, 1, 1});
-    CHECK(plain(&a) && answered(&a, MEROTUNKI_STOPPED, 100, 100, 0, 3));
+    CHECK(plain(&a) && answered(&a, MEROTUNKI_QUIET, 100, 100, 0, 3));
+    prepare(&a, 2, 2);
+    set(&a, (double[]){0, 1, 0, 1});
+    CHECK(plain(&a) && answered(&a, MEROTUNKI_STOPPED, 100, 100, 0, 2) && a.matrix[1] == -1);
     /* not from the identity: U and V are multiplied from the right as they stand */
     prepare(&a, 2, 2);
     set(&a, (double[]){2, 0, 0, 1});
@@ -373,16 +376,20 @@ static void in_order(void) {
     CHECK(ordered(&a)->number == 0 && equal(a.matrix, (double[]){-1, 0, 0, 0, -2, 0}, 6));
     CHECK(same(a.values, (double[]){2, 1}, 2));
     CHECK(equal(a.u, (double[]){0, -1, -1, 0}, 4) && equal(a.v, (double[]){0, -1, 0, -1, 0, 0, 0, 0, 1}, 9));
-    /* 12: the run stopped */
+    /* 12: the run did not settle: it stopped */
+    prepare(&a, 2, 2);
+    set(&a, (double[]){0, 1, 0, 1});
+    CHECK(refused_after_run(&a, 12) && answered(&after, MEROTUNKI_STOPPED, 100, 100, 0, 2));
+    /* or is quiet */
     prepare(&a, 2, 2);
     set(&a, (double[]){0, 0, 0, 0});
     a.limit = 3;
-    CHECK(refused_after_run(&a, 12) && answered(&after, MEROTUNKI_STOPPED, 3, 3, 0, 2));
+    CHECK(refused_after_run(&a, 12) && answered(&after, MEROTUNKI_QUIET, 3, 3, 0, 2));
     CHECK(same(after.u, (double[]){-0.0, 1, -1, -0.0}, 4) && same(after.v, (double[]){-0.0, 1, -1, -0.0}, 4));
     prepare(&a, 2, 2);
     set(&a, (double[]){1, 0, 0, 2});
     a.limit = 0;
-    CHECK(refused_after_run(&a, 12) && answered(&after, MEROTUNKI_STOPPED, 0, 0, 0, 2));
+    CHECK(refused_after_run(&a, 12) && answered(&after, MEROTUNKI_QUIET, 0, 0, 0, 2));
     CHECK(equal(after.matrix, (double[]){-1, 0, 0, 2}, 4) && equal(after.u, (double[]){-1, 0, 0, 1}, 4));
     /* 13: it settled, and a value is not finite. The root of 2 times the largest double is too large for one. */
     static const size_t shapes[][2] = {{1, 2}, {2, 1}};
@@ -404,6 +411,125 @@ static void in_order(void) {
     prepare(&a, 2, 2);
     set(&a, (double[]){1e160, 1e160, 0, 1e160});
     CHECK(refused_after_run(&a, 12) && after.answer.word == MEROTUNKI_STOPPED && isnan(after.matrix[0]));
+}
+
+/* The word by the rule, from what a run has left: settled where the range is 1; where it is more, quiet if every
+ * coupling of the live corner is +0 or -0, and stopped if not. */
+static uint64_t word_by_rule(const job *j) {
+    const size_t n = j->columns, range = (size_t)j->answer.range;
+    int still = 1;
+    for (size_t k = 0; k + 1 < range; k++) still &= j->matrix[n > j->rows ? (k + 1) * n + k : k * n + k + 1] == 0;
+    return range == 1 ? MEROTUNKI_SETTLED : still ? MEROTUNKI_QUIET : MEROTUNKI_STOPPED;
+}
+
+/* Whether the three calls on this job end with the word of the rule: the plain and the accumulating one are accepted
+ * with the same answer and matrix, the ordered one is where that settled with finite values, and is refused by 12 where
+ * it did not settle. Then `after` is what it left, but for the number, which is 0. */
+static int ended(const job *start) {
+    static job run;
+    run = after = *start;
+    plain(&run);
+    full(&after);
+    if (run.answer.number != 0 || memcmp(&run.answer, &after.answer, sizeof run.answer) != 0) return 0;
+    if (!all_alike(run.matrix, after.matrix, LONG) || run.answer.word != word_by_rule(&run)) return 0;
+    if (run.answer.word != MEROTUNKI_SETTLED) return refused_after_run(start, 12);
+    run = after = *start;
+    full(&run);
+    return ordered(&after)->number == 0 ? put_in_order(&run, &after) : refused_after_run(start, 13);
+}
+
+/* Tables of which the word can be read off. A floor of 1,000 leaves the entries of a row where they stand. */
+static const struct ending {
+    size_t rows, columns, limit, credit;
+    double floor;
+    uint64_t word, passes, sweeps, drops, range;
+    double entries[16];
+} endings[] = {
+#define QUIET MEROTUNKI_QUIET
+#define STOPPED MEROTUNKI_STOPPED
+    {2, 2, 3, 50, 1e-21, QUIET, 3, 3, 0, 2, {0}}, /* zeros: their bound is 0, and 0 is not below it */
+    {2, 2, 0, 50, 1e-21, QUIET, 0, 0, 0, 2, {0}},
+    {5, 3, 100, 50, 1e-21, QUIET, 100, 100, 0, 3, {0}},
+    {2, 3, 3, 50, 1e-21, QUIET, 3, 3, 0, 2, {0}}, /* the lower form */
+    {2, 5, 100, 50, 1e-21, QUIET, 100, 100, 0, 2, {0, -0.0, 0, 0, -0.0, 0, 0, -0.0, 0, 0}},
+    {2, 2, 0, 50, 1e-21, QUIET, 0, 0, 0, 2, {2, 0, 0, 1}}, /* not final: the same at limit 1 settles */
+    {2, 2, 1, 50, 1e-21, MEROTUNKI_SETTLED, 1, 0, 1, 1, {2, 0, 0, 1}},
+    {3, 4, 0, 50, 1e-21, QUIET, 0, 0, 0, 3, {1, 0, 0, 0, 0, 2, 0, 0, 0, 0, 4, 0}},
+    {2, 2, 0, 50, 1e-21, QUIET, 0, 0, 0, 2, {1, -0.0, 0, 1}}, /* the couplings are -0 */
+    {3, 3, 0, 50, 1e-21, QUIET, 0, 0, 0, 3, {1, -0.0, 0, 0, 2, -0.0, 0, 0, 3}},
+    {2, 2, 0, 50, 1e-21, QUIET, 0, 0, 0, 2, {-0.0, -0.0, -0.0, -0.0}},
+    /* one coupling that is not 0 is enough: the first, the last, the one between, in either form */
+    {3, 3, 0, 50, 1e-21, STOPPED, 0, 0, 0, 3, {1, 2, 0, 0, 3, 0, 0, 0, 4}},
+    {3, 3, 0, 50, 1e-21, STOPPED, 0, 0, 0, 3, {1, 0, 0, 0, 2, 3, 0, 0, 4}},
+    {4, 4, 0, 50, 1e-21, STOPPED, 0, 0, 0, 4, {1, 0, 0, 0, 0, 2, 5, 0, 0, 0, 3, 0, 0, 0, 0, 4}},
+    {4, 3, 0, 50, 1e-21, STOPPED, 0, 0, 0, 3, {1, 2, 0, 0, 3, 0, 0, 0, 4, 0, 0, 0}},
+    {4, 3, 0, 50, 1e-21, STOPPED, 0, 0, 0, 3, {1, 0, 0, 0, 3, 2, 0, 0, 4, 0, 0, 0}},
+    {3, 4, 0, 50, 1e-21, STOPPED, 0, 0, 0, 3, {1, 0, 0, 0, 2, 3, 0, 0, 0, 0, 4, 0}},
+    {3, 4, 0, 50, 1e-21, STOPPED, 0, 0, 0, 3, {1, 0, 0, 0, 0, 2, 0, 0, 0, 3, 4, 0}},
+    {2, 2, 0, 50, 1e-21, STOPPED, 0, 0, 0, 2, {1, 5e-324, 0, 1}}, /* as small as can be, and not 0 */
+    {2, 2, 0, 50, 1e-21, STOPPED, 0, 0, 0, 2, {1, -5e-324, 0, 1}},
+    {2, 3, 0, 50, 1e-21, STOPPED, 0, 0, 0, 2, {1, 0, 0, 5e-324, 1, 0}},
+    {2, 2, 100, 50, 1e-21, STOPPED, 100, 100, 0, 2, {1e160, 1e160, 0, 1e160}}, /* NaN is not 0 */
+    /* behind the corner: a drop has left the last coupling, 1e-13, which is not asked; and no help where it is 0 */
+    {3, 3, 1, 0, 1e-21, QUIET, 1, 0, 1, 2, {1, 0, 0, 0, 2, 1e-13, 0, 0, 4}},
+    {3, 4, 1, 0, 1e-21, QUIET, 1, 0, 1, 2, {1, 0, 0, 0, 0, 2, 0, 0, 0, 1e-13, 4, 0}},
+    {3, 3, 1, 0, 1e-21, STOPPED, 1, 0, 1, 2, {1, 3, 0, 0, 2, 0, 0, 0, 4}},
+    /* on the other side of the diagonal: not asked, and no help where it is 0. A sweep of the first leaves -2^-54 */
+    {2, 2, 1, 50, 1e-21, QUIET, 1, 1, 0, 2, {0, 3, 1, 3}},
+    {2, 3, 0, 50, 1000, QUIET, 0, 0, 0, 2, {1, 2, 3, 0, 4, 5}},
+    {2, 3, 0, 50, 1000, STOPPED, 0, 0, 0, 2, {1, 0, 0, 7, 4, 5}},
+    {2, 2, 0, 50, 1000, STOPPED, 0, 0, 0, 2, {1, 7, 0, 4}},
+    {3, 3, 0, 50, 1000, QUIET, 0, 0, 0, 3, {1, 0, 3, 0, 4, 0, 0, 0, 5}}, /* a row's tail is no coupling */
+#undef QUIET
+#undef STOPPED
+};
+
+/* A job whose entries are mostly zeros, with a limit that often runs out. */
+static void sparse(job *j, size_t rows, size_t columns) {
+    prepare(j, rows, columns);
+    for (size_t i = 0; i < rows * columns; i++) {
+        double x = drawn();
+        j->matrix[i] = x > 2 ? (double)(int)x : x > -4 ? 0.0 : x > -6 ? -0.0 : x;
+    }
+    j->limit = (size_t)(drawn() + 8) * 2 % 11;
+    j->credit = (size_t)(drawn() + 8) % 3;
+    if (drawn() > 6) j->floor = 1000;
+}
+
+static void quiet(void) {
+    static job a;
+    for (size_t i = 0; i < sizeof endings / sizeof *endings; i++) {
+        const struct ending *e = &endings[i];
+        prepare(&a, e->rows, e->columns);
+        set(&a, e->entries);
+        a.limit = e->limit, a.credit = e->credit, a.floor = e->floor;
+        int good = ended(&a) && answered(&after, e->word, e->passes, e->sweeps, e->drops, e->range);
+        if (!good) printf("ending %d: word %d\n", (int)i, (int)after.answer.word);
+        CHECK(good);
+    }
+    /* two of them once more: what the run leaves there is what is meant */
+    prepare(&a, 2, 2);
+    set(&a, (double[]){1, -0.0, 0, 1});
+    a.limit = 0;
+    CHECK(plain(&a)->word == MEROTUNKI_QUIET && bits(a.matrix[1]) == bits(-0.0));
+    prepare(&a, 2, 2);
+    set(&a, (double[]){0, 3, 1, 3});
+    a.limit = 1;
+    CHECK(plain(&a)->word == MEROTUNKI_QUIET && bits(a.matrix[1]) == 0 && a.matrix[2] == -0x1p-54);
+    /* quiet is not final: with a bound of 0 the next sweep of the same table leaves a coupling, 2^-51.4 */
+    a.limit = 2, a.tolerance = 0;
+    set(&a, (double[]){0, 3, 1, 3});
+    CHECK(plain(&a) && answered(&a, MEROTUNKI_STOPPED, 2, 2, 0, 2) && a.matrix[1] > 0x1p-52 && a.matrix[1] < 0x1p-51);
+    /* drawn tables of many shapes, and how often each word came, in either form */
+    size_t met[2][4] = {{0}};
+    for (size_t i = 0; i < 4000; i++) {
+        seed = i;
+        sparse(&a, 1 + i % 7, 1 + i / 7 % 7);
+        CHECK(ended(&a));
+        met[a.columns > a.rows][after.answer.word & 3]++;
+    }
+    for (size_t form = 0; form < 2; form++)
+        for (size_t word = MEROTUNKI_SETTLED; word <= MEROTUNKI_QUIET; word++) CHECK(met[form][word] > 50);
 }
 
 /* The distances between the table as it was and U x matrix x (V transposed), added up. */
@@ -577,6 +703,7 @@ int main(void) {
     bad_readings();
     known();
     in_order();
+    quiet();
     drawn_tables();
     identities();
     rows();

@@ -27,6 +27,13 @@ static int largest(const double *a, int count) {
     return at;
 }
 
+/* Whether every reading is +0 or -0. */
+static int calm(void) {
+    for (int at = 0; at < M * N; at++)
+        if (readings[at] != 0) return 0;
+    return 1;
+}
+
 /* Part k of the split: value k, column k of U (an entry for each station i), column k of V (one for each pass j). */
 static double share(int k) { return 100 * values[k] * values[k] / dot(readings, 1, readings, 1, M * N); }
 static double mean(int k) { return dot(v + k, N, (double[]){1}, 0, N) / N; } /* of v: every entry times the same 1 */
@@ -52,10 +59,11 @@ int main(void) {
     merotunki_defaults(&c);
     merotunki_ordered_svd(&a, table, M * N, u, M * M, v, N * N, values, VALUES, M, N, c.limit, c.credit, c.tolerance,
                           c.absolute, c.floor);
-    int stopped = a.number == 12, k = 0; /* in order the strongest is the first */
-    if (a.number != 0 && !stopped) return printf("refused by %d\n", (int)a.number), 1; /* split.c has the text of 8 */
-    printf("%s, passes %d\n", stopped ? "stopped" : "settled", (int)a.passes);
-    if (stopped) { /* nothing is in order: the run's values stand on the diagonal */
+    int settled = a.number == 0, k = 0; /* in order the strongest is the first */
+    if (!settled && a.number != 12) return printf("refused by %d\n", (int)a.number), 1; /* split.c has the text of 8 */
+    printf("%s, passes %d\n", settled ? "settled" : a.word == MEROTUNKI_QUIET ? "quiet" : "stopped", (int)a.passes);
+    if (calm()) return puts("Calm: no air moved at any station. There is nothing to split."), 0;
+    if (!settled) { /* it stopped or is quiet. Nothing is in order: the run's values stand on the diagonal */
         for (int i = 0; i < VALUES; i++) values[i] = table[i * N + i];
         k = largest(values, VALUES);
     }
@@ -63,8 +71,8 @@ int main(void) {
     double s = fabs(values[k]), left = merotunki_square_root(dot(rest, 1, rest, 1, M * N));
     int usable = isfinite(dot(table, 1, table, 1, M * N) + share(k) + left + 1 / mean(k)); /* so is each */
     int confirmed = miss(k) <= 1e-10 * s && left < s, worst = largest(rest, M * N);
-    if (!usable || (stopped && !confirmed)) return puts("no split to show"), 1;
-    int end = stopped ? k + 1 : VALUES; /* after a stop only the strongest is known, and only where it is confirmed */
+    if (!usable || (!settled && !confirmed)) return puts("no split to show"), 1;
+    int end = settled ? VALUES : k + 1; /* not settled, only the strongest is known, and only where it is confirmed */
     for (int i = k; i < end; i++) printf("strength %7.4f, share %7.4f %%\n", fabs(values[i]), share(i));
     printf("the readings %s the strongest part\n", confirmed ? "confirm" : "do not confirm");
     for (int i = 0; i < M; i++) printf("station %2d: profile %.2f m/s\n", i, profile(k, i));

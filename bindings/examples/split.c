@@ -17,7 +17,8 @@ int main(void) {
         return puts("."), 1;
     }
     if (a.number != 0) return printf("refused by %d\n", (int)a.number), 1;
-    printf("%s, passes %d\n", a.word == MEROTUNKI_SETTLED ? "settled" : "stopped", (int)a.passes);
+    const char *word = a.word == MEROTUNKI_SETTLED ? "settled" : a.word == MEROTUNKI_QUIET ? "quiet" : "stopped";
+    printf("%s, passes %d\n", word, (int)a.passes);
     printf("values [%f, %f, %f]\n", table[0], table[4], table[8]);
     const double *row = u + merotunki_row(u, 16, v, 9, 4, 3, MEROTUNKI_U, 0).start;
     printf("station 0 [%f, %f, %f, %f]\n", row[0], row[1], row[2], row[3]);

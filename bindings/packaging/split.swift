@@ -20,6 +20,7 @@ if a.number != 0 {
     print("refused by \(a.number)")
     exit(1)
 }
-print(a.word == UInt64(MEROTUNKI_SETTLED) ? "settled, passes \(a.passes)" : "stopped, passes \(a.passes)")
+let word = a.word == UInt64(MEROTUNKI_SETTLED) ? "settled" : a.word == UInt64(MEROTUNKI_QUIET) ? "quiet" : "stopped"
+print("\(word), passes \(a.passes)")
 print(String(format: "values [%f, %f, %f]", table[0], table[4], table[8]))
 print(String(format: "station 0 [%f, %f, %f, %f]", u[0], u[1], u[2], u[3]))

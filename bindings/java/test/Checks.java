@@ -5,6 +5,7 @@ import java.nio.file.Files;
 import java.nio.file.Path;
 import java.nio.file.Paths;
 import java.util.Arrays;
+import java.util.Locale;
 import java.util.concurrent.Callable;
 import merotunki.Refusal;
 import merotunki.Report;
@@ -39,7 +40,7 @@ class Checks {
     static void reported(Report r, String text, int sweeps, int drops, int range) {
         check(r.toString().equals(text) && r.sweeps == sweeps && r.drops == drops && r.range == range
                 && r.passes == sweeps + drops, "the report is " + text + ", not " + r);
-        check((r.word == Report.Word.SETTLED) == text.startsWith("settled"), "the word of " + text);
+        check(text.startsWith(r.word.name().toLowerCase(Locale.ROOT) + ","), "the word of " + text + ", not " + r.word);
     }
 
     // by any number but 8: no reading is named
@@ -55,7 +56,7 @@ class Checks {
             check(false, what + " is refused");
             return null;
         } catch (Refusal r) {
-            boolean ran = number == Refusal.STOPPED || number == Refusal.VALUE;
+            boolean ran = number == Refusal.NOT_SETTLED || number == Refusal.VALUE;
             check(r.number == number && r.station == station && r.pass == pass && r.bad == bad
                             && r.getMessage().endsWith(".") && (r.run != null) == ran,
                     what + " is refused by " + at(number, station, pass, bad) + ", not by "

@@ -68,11 +68,10 @@ class TestMerotunki extends Checks {
         same(full.u(), new double[] {-1.0, 0.0, 0.0, 1.0}, "U of 2 x 2");
         same(full.v(), new double[] {1.0, 0.0, 0.0, 1.0}, "V of 2 x 2");
 
-        double[] ones = new double[9];
-        Arrays.fill(ones, 1.0);
-        reported(Merotunki.split(ones, 3, 3, PLAIN).report, "stopped, passes 100, range left 3", 100, 0, 3);
+        split = Merotunki.split(new double[] {0.0, 1.0, 0.0, 1.0}, 2, 2, PLAIN);
+        reported(split.report, "stopped, passes 100, range left 2", 100, 0, 2);
         split = Merotunki.split(new double[4], 2, 2, PLAIN.withLimit(3));
-        reported(split.report, "stopped, passes 3, range left 2", 3, 0, 2);
+        reported(split.report, "quiet, passes 3, range left 2", 3, 0, 2);
 
         double[] example = {1.2, 1.4, 1.1, 2.4, 2.5, 2.9, 1.9, 2.6, 1.8, 0.7, 0.9, 1.3};
         double[] were = example.clone();
@@ -92,6 +91,38 @@ class TestMerotunki extends Checks {
 
         full.matrix()[0] = full.u()[0] = full.v()[0] = full.values()[0] = 7.0;
         check(full.matrix()[0] != 7.0 && full.u()[0] != 7.0 && full.v()[0] != 7.0, "a split cannot be changed");
+    }
+
+    static void ended(double[] readings, int stations, int passes, Settings settings, String text, int sweeps, int drops,
+            int range) throws Exception {
+        reported(Merotunki.split(readings, stations, passes, settings).report, text, sweeps, drops, range);
+        reported(Merotunki.splitFull(readings, stations, passes, settings).report, text, sweeps, drops, range);
+    }
+
+    // Where the limit runs out: quiet where every coupling of the live corner is +0 or -0, else stopped.
+    static void quietOrStopped() throws Exception {
+        Settings none = PLAIN.withLimit(0);
+        // zeros, of either sign, in either form: a calm roadway
+        ended(new double[4], 2, 2, none, "quiet, passes 0, range left 2", 0, 0, 2);
+        ended(new double[] {-0.0, -0.0, -0.0, -0.0}, 2, 2, none, "quiet, passes 0, range left 2", 0, 0, 2);
+        ended(new double[10], 2, 5, PLAIN, "quiet, passes 100, range left 2", 100, 0, 2);
+        // not final: the same table settles at limit 1
+        double[] apart = {2.0, 0.0, 0.0, 1.0};
+        ended(apart, 2, 2, none, "quiet, passes 0, range left 2", 0, 0, 2);
+        ended(apart, 2, 2, PLAIN.withLimit(1), "settled, passes 1", 0, 1, 1);
+        // one coupling that is not 0, and be it as small as can be
+        double[] first = {1.0, 2.0, 0.0, 0.0, 3.0, 0.0, 0.0, 0.0, 4.0};
+        double[] last = {1.0, 0.0, 0.0, 0.0, 2.0, 3.0, 0.0, 0.0, 4.0};
+        ended(first, 3, 3, none, "stopped, passes 0, range left 3", 0, 0, 3);
+        ended(last, 3, 3, none, "stopped, passes 0, range left 3", 0, 0, 3);
+        double least = Double.MIN_VALUE;
+        ended(new double[] {1.0, least, 0.0, 1.0}, 2, 2, none, "stopped, passes 0, range left 2", 0, 0, 2);
+        ended(new double[] {1.0, 0.0, 0.0, least, 1.0, 0.0}, 2, 3, none, "stopped, passes 0, range left 2", 0, 0, 2);
+        // NaN is not 0
+        ended(new double[] {1e160, 1e160, 0.0, 1e160}, 2, 2, PLAIN, "stopped, passes 100, range left 2", 100, 0, 2);
+        // behind the corner nothing is asked
+        double[] behind = {1.0, 0.0, 0.0, 0.0, 2.0, 1e-13, 0.0, 0.0, 4.0};
+        ended(behind, 3, 3, PLAIN.withLimit(1).withCredit(0), "quiet, passes 1, range left 2", 0, 1, 2);
     }
 
     static void rowsAndColumns(FullSplit s) {
@@ -198,7 +229,13 @@ class TestMerotunki extends Checks {
         putInOrder(new double[] {-0.0, 0.0, 0.0, 3.0}, 2, 2, "-0 and 3");
         putInOrder(new double[] {1.0, 0.0, 0.0, 1.0}, 2, 2, "two equal ones");
         double most = Double.MAX_VALUE;
-        ranAndRefused(new double[4], 2, 2, PLAIN.withLimit(3), Refusal.STOPPED, "stopped, passes 3, range left 2");
+        int unsettled = Refusal.NOT_SETTLED;
+        double[] noFirst = {0.0, 1.0, 0.0, 1.0};
+        ranAndRefused(noFirst, 2, 2, PLAIN.withLimit(3), unsettled, "stopped, passes 3, range left 2");
+        ranAndRefused(new double[4], 2, 2, PLAIN.withLimit(3), unsettled, "quiet, passes 3, range left 2");
+        ranAndRefused(new double[6], 2, 3, PLAIN.withLimit(3), unsettled, "quiet, passes 3, range left 2");
+        Refusal said = refused(() -> Merotunki.splitInOrder(noFirst, 2, 2, PLAIN), unsettled, "12");
+        check(said != null && said.getMessage().equals("The run did not settle: its values are not final."), "12's text");
         ranAndRefused(new double[] {most, most}, 1, 2, PLAIN, Refusal.VALUE, "settled, passes 0");
         ranAndRefused(new double[] {most, most}, 2, 1, PLAIN, Refusal.VALUE, "settled, passes 0");
     }
@@ -325,6 +362,7 @@ class TestMerotunki extends Checks {
 
     public static void main(String[] words) throws Exception {
         knownTables();
+        quietOrStopped();
         toTheBit();
         inOrder();
         refusals();

@@ -32,17 +32,22 @@ fn main() -> Result<(), Refusal> {
     let mut entries = READINGS;
     let mut table = Table::new(&mut entries, 12, PASSES)?;
     let mut values = [0.0; PASSES];
-    // in order the strongest is the first; after a stop the run's values stand on the diagonal
-    let (report, factors, k, stopped) =
+    // in order the strongest is the first; of a run that stopped or is quiet the values stand on the
+    // diagonal
+    let (report, factors, k, settled) =
         match table.split_in_order(&mut values, &Settings::default()) {
-            Ok((report, factors)) => (report, factors, 0, false),
-            Err(Unordered { refusal: Refusal::Stopped, run: Some((report, factors)) }) => {
+            Ok((report, factors)) => (report, factors, 0, true),
+            Err(Unordered { refusal: Refusal::NotSettled, run: Some((report, factors)) }) => {
                 values.iter_mut().zip(table.values()).for_each(|(to, value)| *to = value);
-                (report, factors, largest(&values), true)
+                (report, factors, largest(&values), false)
             }
             Err(unordered) => return Err(unordered.refusal),
         };
     println!("{report}");
+    if READINGS.iter().all(|&x| x == 0.0) {
+        println!("Calm: no air moved at any station. There is nothing to split.");
+        return Ok(());
+    }
     let share = |k: usize| 100.0 * values[k] * values[k] / dot(&READINGS, &READINGS);
     let s = values[k];
     let u: Vec<f64> = factors.over_stations(k).into_iter().flatten().collect();
@@ -56,11 +61,11 @@ fn main() -> Result<(), Refusal> {
     let (left, all) = (dot(&rest, &rest).sqrt(), dot(table.entries(), table.entries()));
     let usable = [all, share(k), left, mean.recip()].iter().all(|x| x.is_finite());
     let confirmed = miss(s, &u, &v) <= 1e-10 * s.abs() && left < s.abs();
-    if !usable || (stopped && !confirmed) {
+    if !usable || (!settled && !confirmed) {
         println!("no split to show");
         return Ok(());
     }
-    for k in if stopped { k..k + 1 } else { 0..PASSES } {
+    for k in if settled { 0..PASSES } else { k..k + 1 } {
         println!("strength {:7.4}, share {:7.4} %", values[k].abs(), share(k));
     }
     let word = if confirmed { "confirm" } else { "do not confirm" };

@@ -39,7 +39,7 @@ answer! {
     column,
     /// How many such readings the whole table has, the first one too.
     bad,
-    /// [`Answer::SETTLED`] or [`Answer::STOPPED`]; 0 where nothing was run.
+    /// [`Answer::SETTLED`], [`Answer::STOPPED`] or [`Answer::QUIET`]; 0 where nothing was run.
     word,
     /// Passes of the walk; each is a sweep or a drop.
     passes,
@@ -47,13 +47,15 @@ answer! {
     sweeps,
     /// Passes that left a value behind as found.
     drops,
-    /// How much of the diagonal is still live: 1 where settled, above 1 where stopped.
+    /// How much of the diagonal is still live: 1 where settled, above 1 where stopped or quiet.
     range,
 }
 
 impl Answer {
     /// Every coupling was found negligible.
     pub const SETTLED: u64 = 1;
-    /// The limit ran out before.
+    /// The limit ran out before, and a coupling of the live corner is not 0.
     pub const STOPPED: u64 = 2;
+    /// The limit ran out before, and every coupling of the live corner is +0 or -0.
+    pub const QUIET: u64 = 3;
 }

@@ -10,9 +10,15 @@ use std::fmt;
 pub enum Report {
     /// Every coupling was found negligible. The answer is the same at every greater limit.
     Settled { passes: u64, sweeps: u64, drops: u64 },
-    /// The limit ran out before. `range`, above 1, is how much of the diagonal was still live; tables
-    /// near rank 1 often end so. Show the values with that in mind.
+    /// The limit ran out before, and a coupling that is left is not 0. `range`, above 1, is how much of
+    /// the diagonal was still live; tables near rank 1 often end so. Show the values with that in mind.
     Stopped { passes: u64, sweeps: u64, drops: u64, range: u64 },
+    /// The limit ran out before, and every coupling that is left is +0 or -0: nothing was left to work
+    /// out, but the method's own test did not call it done. It is no failure, and not final: at a
+    /// greater limit the answer can be another. A table of zeros ends so: show "Calm: no air moved at any
+    /// station. There is nothing to split." Of another one show "Quiet: nothing is left to work out, but
+    /// the values are not final."
+    Quiet { passes: u64, sweeps: u64, drops: u64, range: u64 },
 }
 
 impl fmt::Display for Report {
@@ -22,11 +28,14 @@ impl fmt::Display for Report {
             Report::Stopped { passes, range, .. } => {
                 write!(f, "stopped, passes {passes}, range left {range}")
             }
+            Report::Quiet { passes, range, .. } => {
+                write!(f, "quiet, passes {passes}, range left {range}")
+            }
         }
     }
 }
 
-/// Why a call was refused, first reason first. Nothing has been written then, but for `Stopped` and
+/// Why a call was refused, first reason first. Nothing has been written then, but for `NotSettled` and
 /// `Value`, which [`Table::split_in_order`](crate::Table::split_in_order) alone gives, after its run.
 ///
 /// ```
@@ -69,8 +78,9 @@ pub enum Refusal {
         /// How many such readings the whole table has, this one too.
         bad: usize,
     },
-    /// 12: the run stopped, so that its values are not final.
-    Stopped,
+    /// 12: the run did not settle, so that its values are not final. It stopped or is quiet, as its
+    /// [`Report`] says.
+    NotSettled,
     /// 13: the run settled, and a value is infinite or NaN.
     Value,
 }
@@ -85,7 +95,7 @@ const PLAIN: [(u64, Refusal, &str); 10] = [
     (11, Refusal::List, "The list of values is for a table with another number of values."),
     (6, Refusal::Count, "The limit is above 100000 or the credit is above 1000."),
     (7, Refusal::Bound, "A bound is below zero or no number, or the floor is not above zero."),
-    (12, Refusal::Stopped, "The run stopped: its values are not final."),
+    (12, Refusal::NotSettled, "The run did not settle: its values are not final."),
     (13, Refusal::Value, "A value of the split is not a usable number."),
 ];
 
@@ -102,7 +112,7 @@ impl Refusal {
 
     // Whether it came after the run.
     pub(crate) fn after_run(&self) -> bool {
-        matches!(self, Refusal::Stopped | Refusal::Value)
+        matches!(self, Refusal::NotSettled | Refusal::Value)
     }
 }
 
@@ -123,12 +133,14 @@ impl fmt::Display for Refusal {
 
 impl std::error::Error for Refusal {}
 
-// The report of an answer to a run.
+// The report of an answer to a run. The library has no other words than these three then.
 pub(crate) fn report(answer: Answer) -> Report {
     let Answer { word, passes, sweeps, drops, range, .. } = answer;
     match word {
         Answer::SETTLED => Report::Settled { passes, sweeps, drops },
-        _ => Report::Stopped { passes, sweeps, drops, range },
+        Answer::STOPPED => Report::Stopped { passes, sweeps, drops, range },
+        Answer::QUIET => Report::Quiet { passes, sweeps, drops, range },
+        other => unreachable!("the library has no word {other} for a run"),
     }
 }
 
@@ -143,5 +155,23 @@ pub(crate) fn outcome(answer: Answer) -> Result<Report, Refusal> {
             pass: column as usize,
             bad: bad as usize,
         }),
+    }
+}
+
+#[cfg(test)]
+mod tests {
+    use super::*;
+
+    // Each word has its report, and a word that there is not is taken for none of them.
+    #[test]
+    fn words() {
+        let said =
+            |word| report(Answer { word, passes: 4, range: 2, ..Answer::default() }).to_string();
+        assert_eq!(said(Answer::SETTLED), "settled, passes 4");
+        assert_eq!(said(Answer::STOPPED), "stopped, passes 4, range left 2");
+        assert_eq!(said(Answer::QUIET), "quiet, passes 4, range left 2");
+        for word in [0, 4, u64::MAX] {
+            assert!(std::panic::catch_unwind(|| said(word)).is_err());
+        }
     }
 }

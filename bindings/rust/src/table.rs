@@ -78,7 +78,7 @@ impl<'a> Table<'a> {
     /// [`Table::values`] still has the diagonal, in no order and of either sign.
     ///
     /// Refuses `List` and `Reading`, and then nothing has been written. After the run it refuses
-    /// `Stopped` and `Value`: then `values` is as it was, the table is as the run leaves it, and
+    /// `NotSettled` and `Value`: then `values` is as it was, the table is as the run leaves it, and
     /// [`Unordered::run`] has the run's report, U and V.
     ///
     /// ```
@@ -95,8 +95,8 @@ impl<'a> Table<'a> {
     /// let mut zeros = [0.0; 4];
     /// let mut table = Table::new(&mut zeros, 2, 2)?;
     /// let unordered = table.split_in_order(&mut values, &Settings::default()).unwrap_err();
-    /// assert_eq!(unordered.refusal, Refusal::Stopped);
-    /// assert!(matches!(unordered.run, Some((Report::Stopped { range: 2, .. }, _))));
+    /// assert_eq!(unordered.refusal, Refusal::NotSettled);
+    /// assert!(matches!(unordered.run, Some((Report::Quiet { range: 2, .. }, _))));
     /// # Ok::<(), Refusal>(())
     /// ```
     #[allow(clippy::result_large_err)] // what is handed out where it is accepted is as large
@@ -141,7 +141,7 @@ fn identity(n: usize) -> Vec<f64> {
 pub struct Unordered {
     /// The refusal.
     pub refusal: Refusal,
-    /// With `Stopped` and `Value`, which come after the run, what [`Table::split_full`] would have
+    /// With `NotSettled` and `Value`, which come after the run, what [`Table::split_full`] would have
     /// handed out: the report, U and V. None with the others.
     pub run: Option<(Report, Factors)>,
 }

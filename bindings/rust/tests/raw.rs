@@ -152,7 +152,9 @@ fn two_numbers_come_after_the_run() {
     let choice = Choice { limit: 3, ..fit().choice };
     // number, rows, columns, readings, and the answer's words from the word on
     let cases = [
-        (12, 2, 2, vec![0.0; 4], [2, 3, 3, 0, 2]),
+        (12, 2, 2, vec![0.0, 1.0, 0.0, 1.0], [Answer::STOPPED, 3, 3, 0, 2]),
+        (12, 2, 2, vec![0.0; 4], [Answer::QUIET, 3, 3, 0, 2]),
+        (12, 2, 3, vec![-0.0; 6], [Answer::QUIET, 3, 3, 0, 2]),
         (13, 1, 2, vec![f64::MAX; 2], [1, 0, 0, 0, 1]),
         (13, 2, 1, vec![f64::MAX; 2], [1, 0, 0, 0, 1]),
         (13, 3, 2, vec![1.0, 0.0, 0.0, f64::MAX, 0.0, f64::MAX], [1, 1, 0, 1, 1]),

@@ -31,10 +31,10 @@ fn known_tables() {
     assert_eq!(Table::new(&mut a, 2, 1).unwrap().split(&plain), Ok(settled));
     assert_eq!(bits(&a), bits(&[-5.0, 0.0]));
 
-    let mut a = [1.0; 9];
-    let stopped = Report::Stopped { passes: 100, sweeps: 100, drops: 0, range: 3 };
-    assert_eq!(Table::new(&mut a, 3, 3).unwrap().split(&plain), Ok(stopped));
-    assert_eq!(stopped.to_string(), "stopped, passes 100, range left 3");
+    let mut a = [0.0, 1.0, 0.0, 1.0];
+    let stopped = Report::Stopped { passes: 100, sweeps: 100, drops: 0, range: 2 };
+    assert_eq!(Table::new(&mut a, 2, 2).unwrap().split(&plain), Ok(stopped));
+    assert_eq!(stopped.to_string(), "stopped, passes 100, range left 2");
 
     let mut a = [2.0, 0.0, 0.0, 1.0];
     let mut table = Table::new(&mut a, 2, 2).unwrap();
@@ -46,8 +46,49 @@ fn known_tables() {
 
     let mut a = [0.0; 4];
     let short = plain.with_limit(3).unwrap();
-    let stopped = Report::Stopped { passes: 3, sweeps: 3, drops: 0, range: 2 };
-    assert_eq!(Table::new(&mut a, 2, 2).unwrap().split(&short), Ok(stopped));
+    let quiet = Report::Quiet { passes: 3, sweeps: 3, drops: 0, range: 2 };
+    assert_eq!(Table::new(&mut a, 2, 2).unwrap().split(&short), Ok(quiet));
+    assert_eq!(quiet.to_string(), "quiet, passes 3, range left 2");
+}
+
+// Where the limit runs out: quiet where every coupling of the live corner is +0 or -0, else stopped.
+#[test]
+fn quiet_or_stopped() {
+    let ended = |readings: &[f64], stations, passes, limit, credit| {
+        let settings = Settings::default().with_limit(limit).unwrap().with_credit(credit).unwrap();
+        let (mut a, mut b) = (readings.to_vec(), readings.to_vec());
+        let report = Table::new(&mut a, stations, passes).unwrap().split(&settings).unwrap();
+        let (full, _) =
+            Table::new(&mut b, stations, passes).unwrap().split_full(&settings).unwrap();
+        assert_eq!((full, bits(&b)), (report, bits(&a)));
+        report
+    };
+    let quiet = |passes, sweeps, drops, range| Report::Quiet { passes, sweeps, drops, range };
+    let stopped = |passes, sweeps, drops, range| Report::Stopped { passes, sweeps, drops, range };
+    // zeros, of either sign, in either form: a calm roadway
+    assert_eq!(ended(&[0.0; 4], 2, 2, 0, 50), quiet(0, 0, 0, 2));
+    assert_eq!(ended(&[-0.0; 4], 2, 2, 0, 50), quiet(0, 0, 0, 2));
+    assert_eq!(ended(&[0.0; 10], 2, 5, 100, 50), quiet(100, 100, 0, 2));
+    assert_eq!(ended(&[0.0; 48 * 48], 48, 48, 2, 50), quiet(2, 2, 0, 48));
+    // not final: the same table settles at limit 1
+    assert_eq!(ended(&[2.0, 0.0, 0.0, 1.0], 2, 2, 0, 50), quiet(0, 0, 0, 2));
+    let settled = Report::Settled { passes: 1, sweeps: 0, drops: 1 };
+    assert_eq!(ended(&[2.0, 0.0, 0.0, 1.0], 2, 2, 1, 50), settled);
+    // one coupling that is not 0, and be it as small as can be
+    let first = [1.0, 2.0, 0.0, 0.0, 3.0, 0.0, 0.0, 0.0, 4.0];
+    let last = [1.0, 0.0, 0.0, 0.0, 2.0, 3.0, 0.0, 0.0, 4.0];
+    assert_eq!(ended(&first, 3, 3, 0, 50), stopped(0, 0, 0, 3));
+    assert_eq!(ended(&last, 3, 3, 0, 50), stopped(0, 0, 0, 3));
+    assert_eq!(ended(&[1.0, 5e-324, 0.0, 1.0], 2, 2, 0, 50), stopped(0, 0, 0, 2));
+    assert_eq!(ended(&[1.0, 0.0, 0.0, 5e-324, 1.0, 0.0], 2, 3, 0, 50), stopped(0, 0, 0, 2));
+    // NaN is not 0
+    let mut large = [1e160, 1e160, 0.0, 1e160];
+    let report = Table::new(&mut large, 2, 2).unwrap().split(&Settings::default());
+    assert_eq!(report, Ok(stopped(100, 100, 0, 2)));
+    assert!(large[1].is_nan());
+    // behind the corner nothing is asked
+    let behind = [1.0, 0.0, 0.0, 0.0, 2.0, 1e-13, 0.0, 0.0, 4.0];
+    assert_eq!(ended(&behind, 3, 3, 1, 0), quiet(1, 0, 1, 2));
 }
 
 // Drawn tables, and for each the walk's passes and a sum over the bits of table, U and V, as the
@@ -164,9 +205,12 @@ fn not_in_order() {
     // after it: what the split with U and V leaves and hands out
     let short = plain.with_limit(3).unwrap();
     let stopped = Report::Stopped { passes: 3, sweeps: 3, drops: 0, range: 2 };
+    let quiet = Report::Quiet { passes: 3, sweeps: 3, drops: 0, range: 2 };
     let settled = Report::Settled { passes: 0, sweeps: 0, drops: 0 };
     let cases = [
-        (vec![0.0; 4], 2, 2, short, Refusal::Stopped, stopped),
+        (vec![0.0, 1.0, 0.0, 1.0], 2, 2, short, Refusal::NotSettled, stopped),
+        (vec![0.0; 4], 2, 2, short, Refusal::NotSettled, quiet),
+        (vec![0.0; 6], 2, 3, short, Refusal::NotSettled, quiet),
         (vec![f64::MAX; 2], 1, 2, plain, Refusal::Value, settled),
         (vec![f64::MAX; 2], 2, 1, plain, Refusal::Value, settled),
     ];
@@ -179,9 +223,9 @@ fn not_in_order() {
         assert_eq!((bits(&a), run), (bits(&b), Some(full)));
     }
     // as an error it says what its refusal says, and `?` makes it one
-    let unordered = Unordered { refusal: Refusal::Stopped, run: None };
-    assert_eq!(unordered.to_string(), Refusal::Stopped.to_string());
-    assert_eq!(Refusal::from(unordered), Refusal::Stopped);
+    let unordered = Unordered { refusal: Refusal::NotSettled, run: None };
+    assert_eq!(unordered.to_string(), "The run did not settle: its values are not final.");
+    assert_eq!(Refusal::from(unordered), Refusal::NotSettled);
 }
 
 #[test]
@@ -363,7 +407,7 @@ fn bad_readings() {
 fn refusals_have_numbers_and_texts() {
     use Refusal::*;
     let bad = Reading { station: 4, pass: 2, bad: 1 };
-    let all = [Empty, Large, Length, Stations, Passes, List, Count, Bound, bad, Stopped, Value];
+    let all = [Empty, Large, Length, Stations, Passes, List, Count, Bound, bad, NotSettled, Value];
     assert_eq!(all.map(|r| r.number()), [1, 2, 3, 4, 5, 11, 6, 7, 8, 12, 13]);
     assert_eq!(bad.to_string(), "Station 4, pass 2: no usable reading.");
     let two = Reading { station: 4, pass: 2, bad: 2 };

@@ -47,7 +47,7 @@ final class Native {
         long[] answer = new long[Answer.COUNT];
         orderedSvd(answer, table, u, v, values, stations, passes, s.limit, s.credit, s.tolerance, s.absolute, s.floor);
         int number = Answer.NUMBER.in(answer);
-        if (number == Refusal.STOPPED || number == Refusal.VALUE) {
+        if (number == Refusal.NOT_SETTLED || number == Refusal.VALUE) {
             throw new Refusal(number, new FullSplit(new Report(answer), table, u, v, stations, passes));
         }
         return outcome(answer);

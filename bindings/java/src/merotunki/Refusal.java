@@ -8,8 +8,8 @@ package merotunki;
 public final class Refusal extends Exception {
     /** The number of a reading that is infinite or NaN. */
     public static final int READING = 8;
-    /** The number of a run that stopped, so that its values are not final. */
-    public static final int STOPPED = 12;
+    /** The number of a run that did not settle, so that its values are not final: it stopped or is quiet. */
+    public static final int NOT_SETTLED = 12;
     /** The number of a run that settled with a value that is infinite or NaN. */
     public static final int VALUE = 13;
 
@@ -18,7 +18,7 @@ public final class Refusal extends Exception {
     /**
      * The library's number: 1 no stations or no passes; 2 sizes above 48 or negative; 3 the number of readings is not
      * stations times passes; 6 a limit above 100,000, a credit above 1,000, or a negative one; 7 a tolerance, absolute
-     * bound or floor that is not allowed; {@link #READING}, {@link #STOPPED}, {@link #VALUE}. There are 4, 5 and 11
+     * bound or floor that is not allowed; {@link #READING}, {@link #NOT_SETTLED}, {@link #VALUE}. There are 4, 5 and 11
      * too, for U, V and a list of values of a wrong length: these classes make all three and never give these numbers.
      */
     public final int number;
@@ -79,8 +79,8 @@ public final class Refusal extends Exception {
             case READING:
                 String more = bad > 1 ? ", and " + (bad - 1) + " more." : ".";
                 return "Station " + station + ", pass " + pass + ": no usable reading" + more;
-            case STOPPED:
-                return "The run stopped: its values are not final.";
+            case NOT_SETTLED:
+                return "The run did not settle: its values are not final.";
             case VALUE:
                 return "A value of the split is not a usable number.";
             default:

@@ -33,7 +33,7 @@ public class Split {
 
     /**
      * All that the method leaves of the table. Beside the diagonal may stay what the method found negligible and, where
-     * it stopped, what it did not.
+     * it did not settle, what it did not.
      *
      * @return a copy, station by station
      */
