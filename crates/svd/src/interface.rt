@@ -63,7 +63,7 @@ pub fn full_svd_decomposition(
             vrows: cols,
         };
         let walk = decompose(b, u, v, z, settings);
-        Report::accepted(walk, b, cols, cols <= rows)
+        Report::accepted(walk, b, z)
     }
 }
 
@@ -86,6 +86,6 @@ pub fn svd_decomposition(b: &mut [f64], rows: usize, cols: usize, settings: Sett
             vrows: 0,
         };
         let walk = decompose(b, &mut u, &mut v, z, settings);
-        Report::accepted(walk, b, cols, cols <= rows)
+        Report::accepted(walk, b, z)
     }
 }

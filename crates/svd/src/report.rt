@@ -4,9 +4,11 @@ ghost use mathlib.Core.List.{[]};
 ghost use Rattle.method.specs.Work.{work};
 ghost use Rattle.method.specs.Walk.{stands};
 ghost use Rattle.method.specs.Report.{wordNumber, refused, reported};
+ghost use Rattle.method.specs.Outcome.{isUpper};
 ghost use Rattle.checks.specs.Values.{refusalIn};
 ghost use Rattle.svd.specs.Values.{reportOf, walkOf, wordIn};
 use crate::primitives::Walk;
+use crate::shape::Shape;
 use crate::tally::Tally;
 use checks::refusal::Refusal;
 
@@ -54,18 +56,17 @@ impl Report {
         }
     }
 
-    // The report of the state that a walk came to: its record, and the table as it stands, whose rows
-    // start `stride` entries apart.
-    pub(crate) fn accepted(walk: Walk, b: &[f64], stride: usize, upper: bool) -> Report
-        ensures { λ r. ⌜ reportOf r ≡
-            reported upper stride (stands (walkOf walk) (work (now (b .entry)) [] [])) ⌝ }
+    // The report of the state that a walk came to: its record, and the table as it stands.
+    pub(crate) fn accepted(walk: Walk, b: &[f64], z: Shape) -> Report
+        ensures { λ r. ⌜ reportOf r ≡ reported (isUpper (z .rows) (z .cols)) (z .stride)
+            (stands (walkOf walk) (work (now (b .entry)) [] [])) ⌝ }
     {
         let refusal = Refusal::by(0);
         let tally = walk.tally;
         let mut word = Word::Stopped;
         if tally.range == 1 {
             word = Word::Settled;
-        } else if corner::is_quiet(b, stride, upper, tally.range) {
+        } else if corner::is_quiet(b, z.stride, z.cols <= z.rows, tally.range) {
             word = Word::Quiet;
         }
         Report {

@@ -12,16 +12,18 @@ returns c = rw (c .before .before .before .by .ensures, eq-eqb _ _ (c .if1 .take
 returns-2 : tie.Need-returns-2
 returns-2 c =
     let at-quiet = c .before in
-    let by = at-quiet .before .before .before .before in
+    let else = at-quiet .before .before in
+    let by = else .before .before .before in
     let quiet = sym (at-quiet .is-quiet .ensures) ∙ c .if2 .taken in
-    rw (by .by .ensures, ne-eqb _ _ (at-quiet .before .if1 .left), quiet) refl
+    rw (by .by .ensures, ne-eqb _ _ (else .if1 .left), quiet) refl
 
 returns-3 : tie.Need-returns-3
 returns-3 c =
     let at-quiet = c .before in
-    let by = at-quiet .before .before .before .before in
+    let else = at-quiet .before .before in
+    let by = else .before .before .before in
     let loud = sym (at-quiet .is-quiet .ensures) ∙ c .if2 .left in
-    rw (by .by .ensures, ne-eqb _ _ (at-quiet .before .if1 .left), loud) refl
+    rw (by .by .ensures, ne-eqb _ _ (else .if1 .left), loud) refl
 
 pub accepted-spec : {M : Type 1} → statement M
 accepted-spec =
