@@ -56,4 +56,6 @@ impl Answer {
     pub const SETTLED: u64 = 1;
     /// The limit ran out before.
     pub const STOPPED: u64 = 2;
+    /// The limit ran out before, and every coupling that is still live is zero.
+    pub const QUIET: u64 = 3;
 }
