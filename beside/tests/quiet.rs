@@ -263,3 +263,111 @@ fn surveys_that_end_quiet() {
     let [.., settled, stopped, quiet] = met(1, 2_000);
     assert!(settled >= 500 && stopped >= 100 && quiet >= 50);
 }
+
+/// What is measured on the original of quiet runs at other limits.
+mod limits {
+    use super::*;
+    use beside::run::alike;
+
+    fn at(limit: usize) -> Settings {
+        Settings {
+            limit,
+            ..Settings::DEFAULT
+        }
+    }
+
+    fn plain(rows: usize, cols: usize, matrix: &[f64], limit: usize) -> (Report, Vec<f64>) {
+        let answer = cases::case(rows, cols, matrix, at(limit)).answer().unwrap();
+        (answer.report, answer.matrix)
+    }
+
+    /// Zeros from 2 x 2 on are quiet at every limit: each pass is a sweep, and the table stays zeros.
+    #[test]
+    fn zeros_stay_quiet() {
+        for (rows, cols) in (2..=7).flat_map(|rows| (2..=7).map(move |cols| (rows, cols))) {
+            for x in [0.0, -0.0] {
+                for limit in [0, 1, 2, 3, 99, 100, 1_000] {
+                    let (report, matrix) = plain(rows, cols, &vec![x; rows * cols], limit);
+                    let says = format!("quiet {limit} {limit} 0 {}", rows.min(cols));
+                    assert_eq!(report.to_string(), says);
+                    assert!(matrix.into_iter().all(zero));
+                }
+            }
+        }
+    }
+
+    /// The bounds of the test for a drop, inside the corner.
+    fn bounds(cols: usize, matrix: &[f64], range: usize) -> Vec<f64> {
+        let value = |k: usize| matrix[k * (cols + 1)].abs();
+        let Settings {
+            tolerance,
+            absolute,
+            ..
+        } = Settings::DEFAULT;
+        let bound = |k: usize| ((value(k) + value(k + 1)) * tolerance).min(absolute);
+        (0..range - 1).map(bound).collect()
+    }
+
+    /// Where all of them are above zero a quiet run lacks nothing but passes: with one more for each
+    /// coupling it settles, and the table is the same. At the default limit no quiet run was so: each has
+    /// a bound that is zero, mostly between two zeros of the diagonal, and none settles at a greater one.
+    #[test]
+    fn what_a_quiet_run_lacks() {
+        let (mut lacking, mut never) = (0, 0);
+        for number in 0..40_000 {
+            let (mut run, _) = drawn(3, number, Sizes::UpTo(6));
+            run.call = Call::Plain;
+            run.settings = at(match number % 2 {
+                0 => 100,
+                _ => run.settings.limit.min(100),
+            });
+            let left = run.reply(Call::Plain);
+            if left.report.word != Report::QUIET {
+                continue;
+            }
+            let range = left.report.range as usize;
+            let bounds = bounds(run.cols, &left.matrix, range);
+            if bounds.iter().all(|&bound| bound > 0.0) {
+                assert!(run.settings.limit < 100);
+                run.settings.limit += range - 1;
+                let later = run.reply(Call::Plain);
+                assert_eq!(later.report.word, Report::SETTLED, "{}", run.told());
+                assert_eq!(later.report.sweeps, left.report.sweeps);
+                assert!(alike(&later.matrix, &left.matrix));
+                lacking += 1;
+            } else if run.settings.limit == 100 {
+                run.settings.limit = 400;
+                let later = run.reply(Call::Plain);
+                assert_ne!(later.report.word, Report::SETTLED, "{}", run.told());
+                never += 1;
+            }
+        }
+        assert!(lacking >= 50 && never >= 500, "{lacking} {never}");
+    }
+
+    /// Quiet at a limit is not quiet at every greater one: a sweep that finds two zeros side by side
+    /// exchanges lines, and what stood across the diagonal becomes a coupling.
+    #[test]
+    fn quiet_does_not_stand() {
+        let table = [0.0, -LEAST, 2.0 * LEAST, 0.0, 0.0, -LEAST];
+        let words = [0, 1, 2].map(|limit| plain(2, 3, &table, limit).0.word);
+        assert_eq!(words, [Report::QUIET, Report::STOPPED, Report::QUIET]);
+    }
+
+    /// Nor is the table: values change places, though every coupling is zero all the time.
+    #[test]
+    fn values_change_places() {
+        let mut table = vec![0.0; 16];
+        (table[0], table[5]) = (2.5, 1.0);
+        let diagonal = |limit: usize| {
+            let (report, matrix) = plain(4, 4, &table, limit);
+            assert_eq!(report.word, Report::QUIET);
+            (
+                report.range,
+                [0, 5, 10, 15].map(|at: usize| matrix[at].abs()),
+            )
+        };
+        assert_eq!(diagonal(0), (4, [2.5, 1.0, 0.0, 0.0]));
+        assert_eq!(diagonal(100), (3, [2.5, 0.0, 0.0, 1.0]));
+    }
+}
