@@ -11,6 +11,7 @@ pub const MOST_PASSES: u64 = 40;
 /// The whole list.
 pub fn all() -> Vec<Case> {
     let mut cases = chosen();
+    cases.extend(quiet());
     cases.extend(drawn());
     cases
 }
@@ -98,6 +99,75 @@ fn chosen() -> Vec<Case> {
                 ..loose(0.5, 0.0)
             },
         ),
+    ]
+}
+
+/// Runs that end quiet, and such as miss it: by one coupling alone, or although something else is not zero.
+fn quiet() -> Vec<Case> {
+    let (most, least) = (f64::MAX, f64::from_bits(1));
+    let at = |limit: usize| walk(limit, 50, Settings::DEFAULT);
+    vec![
+        // Zeros of either sign: couplings of -0 at first, and what sweeps make of zeros.
+        case(2, 2, &[0.0, -0.0, -0.0, 0.0], at(0)),
+        case(2, 3, &[0.0, 0.0, 0.0, -0.0, 0.0, 0.0], at(0)),
+        case(2, 3, &[0.0; 6], at(2)),
+        case(3, 2, &[-0.0; 6], at(3)),
+        // No zero on the diagonal: the limit alone is to blame.
+        case(3, 3, &[3.0, 0.0, 0.0, 0.0, 2.0, 0.0, 0.0, 0.0, 1.0], at(0)),
+        // One value and then zeros, which never settle.
+        case(3, 3, &[1.0, 0.0, 0.0, 0.0, 0.0, 0.0, 0.0, 0.0, 0.0], at(4)),
+        // Quiet all the same: a dropped coupling at the corner's end and one behind it, entries across the
+        // diagonal in the lower and in the upper form, a row tail, a value that overflows.
+        case(
+            3,
+            3,
+            &[0.0, 0.0, 0.0, 0.0, 0.0, 1e-13, 0.0, 0.0, 1.0],
+            at(2),
+        ),
+        case(
+            4,
+            4,
+            &[
+                0.0, 0.0, 0.0, 0.0, 0.0, 0.0, 1e-13, 0.0, 0.0, 0.0, 1.0, 1e-13, 0.0, 0.0, 0.0, 1.0,
+            ],
+            at(2),
+        ),
+        case(2, 3, &[0.0, 1e-22, 0.0, 0.0, 0.0, 0.0], at(0)),
+        case(2, 2, &[0.5, -0.5, 0.0, -1.0], at(1)),
+        case(
+            3,
+            3,
+            &[0.0, 0.0, 1e-22, 0.0, 0.0, 0.0, 0.0, 0.0, 0.0],
+            at(0),
+        ),
+        case(2, 2, &[most, 0.0, most, 0.0], at(0)),
+        // One coupling alone: the first, the last and one between, in the upper form and in the lower.
+        case(3, 3, &[3.0, 1.0, 0.0, 0.0, 2.0, 0.0, 0.0, 0.0, 1.0], at(0)),
+        case(3, 3, &[3.0, 0.0, 0.0, 0.0, 2.0, 1.0, 0.0, 0.0, 1.0], at(0)),
+        case(
+            4,
+            4,
+            &[
+                0.0, 0.0, 0.0, 0.0, 0.0, 0.0, 1.0, 0.0, 0.0, 0.0, 0.0, 0.0, 0.0, 0.0, 0.0, 0.0,
+            ],
+            at(0),
+        ),
+        case(
+            3,
+            4,
+            &[0.0, 0.0, 0.0, 0.0, -0.5, 0.0, 0.0, 0.0, 0.0, 0.0, 0.0, 0.0],
+            at(0),
+        ),
+        case(
+            3,
+            4,
+            &[0.0, 0.0, 0.0, 0.0, 0.0, 0.0, 0.0, 0.0, 0.0, -0.5, 0.0, 0.0],
+            at(0),
+        ),
+        // The smallest number that is not zero, and a NaN.
+        case(2, 2, &[0.0, least, 0.0, 0.0], at(0)),
+        case(2, 3, &[0.0, 0.0, 0.0, -least, 0.0, 0.0], at(0)),
+        case(2, 2, &[most; 4], at(0)),
     ]
 }
 

@@ -7,7 +7,7 @@ use crate::run::{Call, Run, Start};
 use crate::{Settings, readings};
 
 /// The kinds of tables, by name.
-pub const TABLES: [&str; 17] = [
+pub const TABLES: [&str; 18] = [
     "ordinary",
     "anemometer readings",
     "small whole numbers",
@@ -25,11 +25,15 @@ pub const TABLES: [&str; 17] = [
     "two diagonals",
     "graded",
     "equal values",
+    "no coupling or one",
 ];
 
-/// The last kind: tables that settle with equal values, among them zeros of either sign, or with values
-/// that are not finite.
-const EQUAL_VALUES: usize = TABLES.len() - 1;
+/// Tables that settle with equal values, among them zeros of either sign, or with values that are not
+/// finite.
+const EQUAL_VALUES: usize = 16;
+
+/// Tables whose runs end quiet where the limit runs out, or miss it by one coupling.
+const FEW_COUPLINGS: usize = 17;
 
 /// How large the drawn tables are.
 #[derive(Clone, Copy, PartialEq, Eq)]
@@ -294,7 +298,8 @@ pub(crate) fn table(
                 .map(|at| even(draw) * f64::powi(step, (at / cols + at % cols) as i32))
                 .collect()
         }
-        _ => equal_values(draw, rows, cols),
+        EQUAL_VALUES => equal_values(draw, rows, cols),
+        _ => few_couplings(draw, rows, cols, floor),
     }
 }
 
@@ -328,6 +333,66 @@ fn equal_values(draw: &mut Draw, rows: usize, cols: usize) -> Vec<f64> {
         let line = draw.below(lines as u64) as usize;
         table[at(line, places[line])] = f64::MAX;
         table[at(line, places[lines])] = f64::MAX;
+    }
+    table
+}
+
+/// A diagonal and zeros, of either sign in half of the tables; and then nothing more, or one coupling: the
+/// first, the last or any, large or as small as can be; or something where no coupling stands: across the
+/// diagonal or anywhere, below the floor, so that it stays; couplings that are dropped, behind a corner
+/// of zeros; or a last 2 x 2 whose coupling overflows.
+fn few_couplings(draw: &mut Draw, rows: usize, cols: usize, floor: f64) -> Vec<f64> {
+    let zeros = of(draw, &[[0.0, 0.0], [0.0, -0.0]]);
+    let mut table: Vec<f64> = (0..rows * cols).map(|_| of(draw, &zeros)).collect();
+    let tiny = f64::from_bits(1);
+    let small = [tiny, -tiny, f64::MIN_POSITIVE.next_down(), floor / 2.0];
+    let values: [&[f64]; 4] = [
+        &zeros,
+        &[0.0, -0.0, 1.0, -2.5],
+        &[1.0, -1.0, 0.5, 3.0],
+        &[0.0, 1e-3, 1e-310, tiny],
+    ];
+    let values = of(draw, &values);
+    let card = rows.min(cols);
+    for k in 0..card {
+        table[k * (cols + 1)] = of(draw, values);
+    }
+    let Some(last) = card.checked_sub(2) else {
+        return table;
+    };
+    // The entries right of the diagonal and below it, and which of them are the couplings.
+    let sides = [
+        |k: usize, cols: usize| k * cols + k + 1,
+        |k, cols| (k + 1) * cols + k,
+    ];
+    let [coupling, across] = match cols > rows {
+        false => sides,
+        true => [sides[1], sides[0]],
+    };
+    let any = draw.below(last as u64 + 1) as usize;
+    let place = of(draw, &[0, last, any]);
+    match draw.below(10) {
+        0..2 => {}
+        2..4 => table[coupling(place, cols)] = of(draw, &[1.0, -0.5, 1e-13, f64::MAX]),
+        4..6 => table[coupling(place, cols)] = of(draw, &small),
+        6 => table[across(place, cols)] = of(draw, &small),
+        7 => {
+            let at = draw.below((rows * cols) as u64) as usize;
+            table[at] = of(draw, &small);
+        }
+        8 => {
+            for k in 0..card {
+                table[k * (cols + 1)] = if k > place { 1.0 } else { 0.0 };
+            }
+            for k in place..=last {
+                table[coupling(k, cols)] = 1e-13;
+            }
+        }
+        _ => {
+            for at in [0, 1, cols, cols + 1] {
+                table[last * (cols + 1) + at] = f64::MAX;
+            }
+        }
     }
     table
 }
@@ -475,6 +540,14 @@ pub fn drawn(seed: u64, number: u64, sizes: Sizes) -> (Run, usize) {
     if !unfit && draw.below(32) == 0 {
         kind = EQUAL_VALUES;
         run.matrix = table(draw, kind, rows, cols, settings.floor);
+    }
+    if !unfit && draw.below(16) == 0 {
+        kind = FEW_COUPLINGS;
+        run.matrix = table(draw, kind, rows, cols, settings.floor);
+        // In half of them the limit runs out soon.
+        if draw.below(2) == 0 {
+            run.settings.limit = of(draw, &[0, 0, 0, 1, 2, 3]);
+        }
     }
     (run, kind)
 }

@@ -10,6 +10,7 @@ pub mod kinds;
 pub mod limits;
 pub mod order;
 pub mod pairs;
+pub mod quiet;
 pub mod readings;
 mod record;
 pub mod refusals;
@@ -111,20 +112,16 @@ pub fn run(
         card == 1,
         "a walk exactly when there is more than one value"
     );
-    let range = record.left.unwrap_or(1) as u64;
+    let range = record.left.unwrap_or(1);
     Report {
         number: 0,
         row: 0,
         column: 0,
         bad: 0,
-        word: if range == 1 {
-            Report::SETTLED
-        } else {
-            Report::STOPPED
-        },
+        word: quiet::word(rows, cols, matrix, range),
         passes: record.passes,
         sweeps: record.sweeps,
         drops: record.drops,
-        range,
+        range: range as u64,
     }
 }

@@ -101,7 +101,7 @@ fn line(case: &str) -> String {
     let run = run_of(&parts[1..]);
     let reply = run.reply(run.call);
     let [number, row, column, bad, word, counts @ ..] = reply.report.words();
-    let word = ["none", "settled", "stopped"][word as usize];
+    let word = ["none", "settled", "stopped", "quiet"][word as usize];
     let counts = counts.map(|count| count.to_string()).join(" ");
     let mut text = format!(
         "{}: {number} {row} {column} {bad} {word} {counts}\n",

@@ -442,7 +442,7 @@ fn minus_zero(x: f64) -> bool {
 type Count = fn(&Seen) -> u64;
 
 /// What is counted of a pair. Rows that end are those of the accumulating call.
-pub const COUNTS: [(&str, Count); 28] = [
+pub const COUNTS: [(&str, Count); 29] = [
     ("pairs", |_| 1),
     ("  a row copied", |seen| seen.way(Way::Copied)),
     ("  two rows exchanged", |seen| seen.way(Way::Exchanged)),
@@ -456,6 +456,9 @@ pub const COUNTS: [(&str, Count); 28] = [
     }),
     ("  stopped", |seen| {
         u64::from(seen.kept[0].report.word == Report::STOPPED)
+    }),
+    ("  quiet", |seen| {
+        u64::from(seen.kept[0].report.word == Report::QUIET)
     }),
     ("ordered call: values in order", |seen| {
         seen.in_order(|_| true)

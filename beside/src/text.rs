@@ -165,6 +165,7 @@ impl fmt::Display for Report {
         let word = match self.word {
             Report::SETTLED => "settled",
             Report::STOPPED => "stopped",
+            Report::QUIET => "quiet",
             _ => "none",
         };
         write!(

@@ -40,6 +40,14 @@ const REFUSED: &str = "1\n40 2 3\n\
 3FF0000000000000 4000000000000000 4008000000000000\n\
 7FF0000000000000 4014000000000000 FFF8000000000001\n";
 
+/// A survey that ends quiet, and one that stops with as many passes.
+const QUIET: &str = "1\n7 2 2\n\
+0000000000000000 0000000000000000\n\
+0000000000000000 0000000000000000\n";
+const STOPPED: &str = "1\n7 2 2\n\
+0000000000000000 3FF0000000000000\n\
+0000000000000000 3FF0000000000000\n";
+
 /// Two surveys, a 2 x 3 and a 2 x 1: the text that is damaged.
 const BASE: &str = "2\n31 2 3\n7 2 1\n\
 3FF0000000000000 4000000000000000 BFE0000000000000\n\
@@ -78,10 +86,51 @@ fn well_formed(texts: &mut Vec<Vec<u8>>) {
             .collect();
         texts.push(written(&surveys));
     }
-    // Rank one, all ones and zeros: tables that stop.
+    // Rank one, all ones and zeros: tables that stop, and such as are quiet.
     for readings in [vec![1.0; 9], vec![0.0; 9], vec![-0.0; 9]] {
         texts.push(written(&[(5, 3, 3, readings)]));
     }
+}
+
+/// Surveys that end quiet, and such as miss it by one coupling or not at all.
+fn quiet(texts: &mut Vec<Vec<u8>>) {
+    texts.push(QUIET.into());
+    texts.push(STOPPED.into());
+    let least = f64::from_bits(1);
+    let tables: [(usize, usize, &[f64]); 16] = [
+        // Zeros, in both forms and of either sign.
+        (2, 3, &[0.0; 6]),
+        (3, 2, &[-0.0; 6]),
+        (2, 2, &[0.0, -0.0, 0.0, 0.0]),
+        (2, 3, &[0.0, 0.0, 0.0, -0.0, 0.0, 0.0]),
+        // All but one station, and all but one pass: the second settles.
+        (3, 3, &[1.25, 0.5, 2.0, 0.0, 0.0, 0.0, 0.0, 0.0, 0.0]),
+        (3, 2, &[0.0, 1.25, 0.0, 0.5, 0.0, 2.0]),
+        (2, 3, &[0.0, 0.0, 0.0, 1.25, 0.5, 2.0]),
+        (3, 3, &[1.0, 0.0, 0.0, 0.0, 0.0, 0.0, 0.0, 0.0, 0.0]),
+        // One coupling alone: the first and the last of two, and the smallest that there is.
+        (3, 3, &[0.0, 1.0, 0.0, 0.0, 0.0, 0.0, 0.0, 0.0, 0.0]),
+        (3, 3, &[0.0, 0.0, 0.0, 0.0, 0.0, 1.0, 0.0, 0.0, 0.0]),
+        (2, 2, &[0.0, least, 0.0, 0.0]),
+        (2, 3, &[0.0, 0.0, 0.0, least, 0.0, 0.0]),
+        (3, 2, &[0.0, -least, 0.0, 0.0, 0.0, 0.0]),
+        // Something else than a coupling: across the diagonal, behind it, and a coupling that was dropped.
+        (2, 3, &[0.0, 1e-22, 0.0, 0.0, 0.0, 0.0]),
+        (3, 3, &[0.0, 0.0, 1e-22, 0.0, 0.0, 0.0, 0.0, 0.0, 0.0]),
+        (3, 3, &[0.0, 0.0, 0.0, 0.0, 0.0, 1e-13, 0.0, 0.0, 1.0]),
+    ];
+    for (id, (rows, cols, readings)) in (21..).zip(tables) {
+        texts.push(written(&[(id, rows, cols, readings.to_vec())]));
+    }
+    // Between surveys that settled and one that stopped.
+    let of = |id: usize, readings: [f64; 4]| (id, 2, 2, readings.to_vec());
+    texts.push(written(&[
+        of(1, [2.0, 0.0, 0.0, 1.0]),
+        of(2, [0.0; 4]),
+        of(3, [0.0, 1.0, 0.0, 1.0]),
+        of(4, [-0.0; 4]),
+        of(5, [2.0, 0.0, 0.0, 1.0]),
+    ]));
 }
 
 /// Readings that are infinite or NaN: in every choice of a 2 x 3's places, in large tables, and in one
@@ -263,6 +312,7 @@ fn long(texts: &mut Vec<Vec<u8>>) {
 pub fn all() -> Vec<Vec<u8>> {
     let mut texts = vec![Vec::new(), b"\n".to_vec(), b"\n\n".to_vec(), b"\0".to_vec()];
     well_formed(&mut texts);
+    quiet(&mut texts);
     bad_readings(&mut texts);
     cut(&mut texts);
     bytes_wrong(&mut texts);
@@ -287,9 +337,9 @@ fn store(out: &mut Vec<u8>, mark: char, text: &[u8], answer: &[u8]) {
 }
 
 /// Texts with answers that are wrong on purpose, each a right one with one change: each byte of an answer and of one that
-/// refuses, row and column exchanged, and both as one index; the last byte of a long one, an answer with a byte less or
-/// more at either end or with none, each byte of a text that counts, and the place where the text ends and the answer
-/// begins.
+/// refuses, row and column exchanged, and both as one index; another word, `quiet` for `stopped` and the like; the last
+/// byte of a long one, an answer with a byte less or more at either end or with none, each byte of a text that counts,
+/// and the place where the text ends and the answer begins.
 fn wrong() -> Vec<(Vec<u8>, Vec<u8>)> {
     let text = EXAMPLE.as_bytes().to_vec();
     let answer = split(&text).into_bytes();
@@ -309,6 +359,12 @@ fn wrong() -> Vec<(Vec<u8>, Vec<u8>)> {
         "40 refused 8 3\n",
     ] {
         rows.push((REFUSED.into(), other.into()));
+    }
+    for (text, word) in [(QUIET, "quiet"), (STOPPED, "stopped"), (EXAMPLE, "settled")] {
+        let right = split(text.as_bytes());
+        for other in ["quiet", "stopped", "settled", "none"] {
+            rows.push((text.into(), right.replacen(word, other, 1).into()));
+        }
     }
     let long = written(&[drawn(&mut Draw(0x1096), 300, 2, 48, 2)]);
     let end = split(&long).into_bytes();
@@ -470,14 +526,20 @@ pub fn lot(seed: u64, first: u64, end: u64, most: usize) -> (Vec<u8>, u64) {
 }
 
 /// Of the first texts of a seed how many surveys are refused by 8, and how many of these have more than
-/// one bad reading.
-pub fn met(seed: u64, many: u64) -> [u64; 2] {
-    let mut met = [0; 2];
+/// one bad reading; and how many end settled, stopped and quiet.
+pub fn met(seed: u64, many: u64) -> [u64; 5] {
+    let mut met = [0; 5];
     for number in 0..many {
         for line in split(&drawn_text(seed, number)).lines() {
-            if let [_, "refused", "8", _, _, bad] = line.split(' ').collect::<Vec<_>>()[..] {
-                met[0] += 1;
-                met[1] += u64::from(bad != "1");
+            match line.split(' ').collect::<Vec<_>>()[..] {
+                [_, "refused", "8", _, _, bad] => {
+                    met[0] += 1;
+                    met[1] += u64::from(bad != "1");
+                }
+                [_, "settled", ..] => met[2] += 1,
+                [_, "stopped", ..] => met[3] += 1,
+                [_, "quiet", ..] => met[4] += 1,
+                _ => {}
             }
         }
     }

@@ -235,7 +235,8 @@ pub fn entry(told: &mut Told, mut at: usize) -> Option<&mut f64> {
 /// Runs with answers that are wrong on purpose in one place: each word of the report, its lowest and
 /// its highest bit; row and column of a bad reading exchanged; each entry of each list, its lowest and
 /// its highest bit; every bit of one entry of each list; a NaN for a number and a number for a NaN. First
-/// of the plain and the accumulating call, then of the ordered one, which has not every bit.
+/// of the plain and the accumulating call, then of the ordered one, which has not every bit. Then of all
+/// three every other word than a quiet run's own, and than that of one which misses it.
 fn replies_wrong(wrong: &mut Vec<(Run, Told)>) {
     let accepted = |call: Call, start: &Start| Run {
         rows: 2,
@@ -308,11 +309,11 @@ fn replies_wrong(wrong: &mut Vec<(Run, Told)>) {
     });
 
     let in_order = accepted(Call::Ordered, &given);
-    let [bad, short, stopped] = [8, 11, 12].map(|number| answering(Call::Ordered, number));
+    let [bad, short, late] = [8, 11, 12].map(|number| answering(Call::Ordered, number));
     fn ordered(told: &mut Told) -> &mut Reply {
         told.ordered.as_mut().expect("the ordered call's")
     }
-    for run in [&in_order, &bad, &short, &stopped] {
+    for run in [&in_order, &bad, &short, &late] {
         for (word, bit) in flips() {
             add(run, &|told| ordered(told).flip(word, bit));
         }
@@ -323,9 +324,38 @@ fn replies_wrong(wrong: &mut Vec<(Run, Told)>) {
     add(&in_order, &|told| ordered(told).values[1] = f64::NAN);
     // After 12 matrix, U and V are held against those of the accumulating call.
     for at in [0, 4, 8] {
-        add(&stopped, &|told| flip(told, at, 0));
+        add(&late, &|told| flip(told, at, 0));
+    }
+
+    for run in WORDS_WRONG {
+        let (rows, cols, matrix, limit) = run;
+        let settings = Settings {
+            limit,
+            ..Settings::DEFAULT
+        };
+        let run = Run::from(cases::case(rows, cols, matrix, settings));
+        let own = told(&run).first.report.word;
+        let words = [0, Report::SETTLED, Report::STOPPED, Report::QUIET];
+        for word in words.into_iter().filter(|&word| word != own) {
+            add(&run, &|told| told.first.report.word = word);
+            add(&run, &|told| ordered(told).report.word = word);
+        }
     }
 }
+
+/// Runs whose word is told wrong: rows, columns, table and limit. Two that end quiet, and two that miss it,
+/// in the upper and in the lower form.
+const WORDS_WRONG: [(usize, usize, &[f64], usize); 4] = [
+    (2, 2, &[0.0; 4], 3),
+    (2, 3, &[0.0, 0.0, 0.0, -0.0, 0.0, 0.0], 0),
+    (3, 3, &[3.0, 0.0, 0.0, 0.0, 2.0, 1.0, 0.0, 0.0, 1.0], 0),
+    (
+        3,
+        4,
+        &[0.0, 0.0, 0.0, 0.0, -0.5, 0.0, 0.0, 0.0, 0.0, 0.0, 0.0, 0.0],
+        0,
+    ),
+];
 
 /// Runs that are not those of their replies: one thing that is handed to the call is another, each once.
 fn runs_wrong(wrong: &mut Vec<(Run, Told)>) {
@@ -430,7 +460,7 @@ pub fn write(runs: impl Iterator<Item = Run>, out: &mut impl Write) -> io::Resul
 
 /// The line that the program prints of these runs, and so many that are wrong on purpose, where all is as it should be.
 pub fn summary(runs: impl Iterator<Item = Run>, wrong: usize) -> String {
-    let mut by_word = [0; 3];
+    let mut by_word = [0; 4];
     let (mut passes, mut in_order) = (0, 0);
     for run in runs {
         let Told { first, ordered } = told(&run);
@@ -438,11 +468,11 @@ pub fn summary(runs: impl Iterator<Item = Run>, wrong: usize) -> String {
         passes += first.report.passes;
         in_order += u64::from(ordered.is_some_and(|reply| reply.report.number == 0));
     }
-    let [refused, settled, stopped] = by_word;
+    let [refused, settled, stopped, quiet] = by_word;
     let many: u64 = by_word.iter().sum();
     format!(
-        "{many} runs: {refused} refused, {settled} settled, {stopped} stopped, {passes} passes, {in_order} in order, \
-         0 differ; {wrong} wrong on purpose, {wrong} found\n"
+        "{many} runs: {refused} refused, {settled} settled, {stopped} stopped, {quiet} quiet, {passes} passes, \
+         {in_order} in order, 0 differ; {wrong} wrong on purpose, {wrong} found\n"
     )
 }
 

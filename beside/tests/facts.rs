@@ -98,15 +98,15 @@ fn table() {
         hexes(&[-1.0, 0.0, 0.0, 1.0])
     );
     let zeros = answer(2, 2, &[0.0; 4], Settings { limit: 3, ..LOW });
-    expect(&zeros, "stopped 3 3 0 2", &[0.0; 4]);
+    expect(&zeros, "quiet 3 3 0 2", &[0.0; 4]);
 }
 
 #[test]
 fn limit_none() {
     let none = Settings { limit: 0, ..LOW };
     let diagonal = answer(2, 2, &[2.0, 0.0, 0.0, 1.0], none);
-    expect(&diagonal, "stopped 0 0 0 2", &[-2.0, 0.0, 0.0, 1.0]);
-    expect(&answer(2, 2, &[0.0; 4], none), "stopped 0 0 0 2", &[0.0; 4]);
+    expect(&diagonal, "quiet 0 0 0 2", &[-2.0, 0.0, 0.0, 1.0]);
+    expect(&answer(2, 2, &[0.0; 4], none), "quiet 0 0 0 2", &[0.0; 4]);
 }
 
 #[test]

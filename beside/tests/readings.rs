@@ -203,7 +203,7 @@ fn every_kind_is_drawn() {
 /// In the drawn texts too, NaNs with their own bits.
 #[test]
 fn drawn_texts_have_bad_readings() {
-    let [refused, several] = met(1, 2_000);
+    let [refused, several, ..] = met(1, 2_000);
     assert!(several >= 50 && refused >= several + 50);
     let usual = "7FF8000000000000";
     let strange = (0..2_000).any(|number| {

@@ -79,16 +79,18 @@ fn the_words_of_a_refusal() {
 
 /// With 12 the ordered call has the accumulating one's words but for the number, and no lists.
 #[test]
-fn the_words_of_a_run_that_stopped() {
+fn the_words_of_a_run_that_has_not_settled() {
     let none = Settings {
         limit: 0,
         ..Settings::DEFAULT
     };
-    let run = Run::from(cases::case(2, 2, &[2.0, 0.0, 0.0, 1.0], none));
-    let all = words(&run, &told(&run), 0);
-    let stopped = [0, 0, 0, 0, 2, 0, 0, 0, 2];
-    assert_eq!(all[18..27], stopped);
-    assert_eq!(all[39..], [&[12], &stopped[1..]].concat());
+    for (coupling, word) in [(3.0, 2), (0.0, 3)] {
+        let run = Run::from(cases::case(2, 2, &[2.0, coupling, 0.0, 1.0], none));
+        let all = words(&run, &told(&run), 0);
+        let stopped = [0, 0, 0, 0, word, 0, 0, 0, 2];
+        assert_eq!(all[18..27], stopped);
+        assert_eq!(all[39..], [&[12], &stopped[1..]].concat());
+    }
 }
 
 #[test]

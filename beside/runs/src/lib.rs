@@ -3,6 +3,7 @@
 
 use beside::Report;
 use beside::order::{diagonal, places};
+use beside::quiet::{self, Corner};
 use beside::run::{Call, Reply, Run, alike, untouched, unwritten};
 use merotunki::raw;
 
@@ -72,8 +73,8 @@ pub fn differs(got: &Reply, must: &Reply) -> Option<String> {
         .map(|(name, ..)| name.to_string())
 }
 
-/// The laws of an accepted reply, on the library's own replies: the counts, the bound, credit 0, and
-/// the same answer at a greater limit once it is settled.
+/// The laws of an accepted reply, on the library's own replies: the counts, the word by its own table, the
+/// bound, credit 0, and the same answer at a greater limit once it is settled.
 fn breaks(run: &Run, call: Call, got: &Reply, greater: Option<usize>) -> Option<&'static str> {
     let Report {
         word,
@@ -88,7 +89,8 @@ fn breaks(run: &Run, call: Call, got: &Reply, greater: Option<usize>) -> Option<
     if passes != sweeps + drops || drops + range != card || range == 0 {
         return Some("law of the counts");
     }
-    if (word == Report::SETTLED) != (range == 1) || (card == 1 && passes != 0) {
+    let told = quiet::word(run.rows, run.cols, &got.matrix, range as usize);
+    if word != told || (card == 1 && passes != 0) {
         return Some("law of the word");
     }
     if card > 1 && passes > limit + credit * (card - 2) {
@@ -123,6 +125,8 @@ pub struct Seen {
     /// A NaN or an infinity in the table afterwards.
     pub nan: bool,
     pub infinite: bool,
+    /// The corner that is still live, where it was accepted and has not settled.
+    pub corner: Option<Corner>,
     /// Of the ordered call, where it was made.
     pub order: Option<Order>,
 }
@@ -132,6 +136,8 @@ pub struct Seen {
 #[derive(Clone, Debug)]
 pub struct Order {
     number: u64,
+    /// The run's word.
+    word: u64,
     /// A number besides 11 applies, and 11 applies.
     two: bool,
     /// There is more than one value.
@@ -148,7 +154,7 @@ pub struct Order {
 }
 
 /// What ordered calls can meet, and which of them do.
-pub const MEETINGS: [(&str, fn(&Order) -> bool); 13] = [
+pub const MEETINGS: [(&str, fn(&Order) -> bool); 15] = [
     ("values in order", |order| order.number == 0),
     ("in order, more than one value", |order| {
         order.number == 0 && order.several
@@ -176,6 +182,12 @@ pub const MEETINGS: [(&str, fn(&Order) -> bool); 13] = [
         order.number <= 5 && order.two
     }),
     ("refused 12", |order| order.number == 12),
+    ("refused 12, stopped", |order| {
+        order.number == 12 && order.word == Report::STOPPED
+    }),
+    ("refused 12, quiet", |order| {
+        order.number == 12 && order.word == Report::QUIET
+    }),
     ("refused 13", |order| order.number == 13),
     ("refused 13, more than one value", |order| {
         order.number == 13 && order.several
@@ -198,6 +210,7 @@ impl Order {
         let listed = run.values.len() == run.rows.min(run.cols);
         Order {
             number,
+            word: kept.report.word,
             two: unfit && !listed,
             several: values.len() > 1,
             moved: !places(&values).is_sorted(),
@@ -266,6 +279,7 @@ pub fn check(run: &Run, greater: Option<usize>) -> Result<Seen, String> {
             seen.report = got.report;
             seen.nan = got.matrix.iter().any(|value| value.is_nan());
             seen.infinite = got.matrix.iter().any(|value| value.is_infinite());
+            seen.corner = Corner::of(run, &got);
             before = Some((got, must));
         }
     }

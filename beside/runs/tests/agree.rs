@@ -93,6 +93,58 @@ fn each_word_of_the_report_is_seen() {
     }
 }
 
+/// Runs that end quiet, and such as miss it by one coupling: the library's own words, by every call. The
+/// other word in their place is seen.
+#[test]
+fn quiet_is_told() {
+    let least = f64::from_bits(1);
+    let most = f64::MAX;
+    let runs: [(usize, usize, &[f64], usize, u64); 10] = [
+        (2, 2, &[0.0; 4], 3, Report::QUIET),
+        (2, 2, &[0.0, -0.0, 0.0, 0.0], 0, Report::QUIET),
+        (2, 3, &[0.0, 0.0, 0.0, -0.0, 0.0, 0.0], 0, Report::QUIET),
+        (2, 3, &[0.0, 1e-22, 0.0, 0.0, 0.0, 0.0], 0, Report::QUIET),
+        (2, 2, &[0.5, -0.5, 0.0, -1.0], 1, Report::QUIET),
+        (
+            3,
+            3,
+            &[0.0, 0.0, 0.0, 0.0, 0.0, 1e-13, 0.0, 0.0, 1.0],
+            2,
+            Report::QUIET,
+        ),
+        (
+            3,
+            3,
+            &[3.0, 1.0, 0.0, 0.0, 2.0, 0.0, 0.0, 0.0, 1.0],
+            0,
+            Report::STOPPED,
+        ),
+        (
+            3,
+            3,
+            &[3.0, 0.0, 0.0, 0.0, 2.0, 1.0, 0.0, 0.0, 1.0],
+            0,
+            Report::STOPPED,
+        ),
+        (2, 3, &[0.0, 0.0, 0.0, least, 0.0, 0.0], 0, Report::STOPPED),
+        (2, 2, &[most; 4], 0, Report::STOPPED),
+    ];
+    for (rows, cols, matrix, limit, word) in runs {
+        let mut run = run(rows, cols, matrix);
+        run.settings.limit = limit;
+        let seen = check(&run, None).unwrap_or_else(|wrong| panic!("{wrong}{}", run.told()));
+        assert_eq!(seen.corner.unwrap().quiet(), word == Report::QUIET);
+        for call in [Call::Plain, Call::Accumulating, Call::Ordered] {
+            let (got, must) = (library(&run, call), run.reply(call));
+            let number = if call == Call::Ordered { 12 } else { 0 };
+            assert_eq!((got.report.number, got.report.word), (number, word));
+            let mut wrong = got.clone();
+            wrong.report.word = Report::STOPPED + Report::QUIET - word;
+            assert_eq!(differs(&wrong, &must).unwrap(), "the report's word");
+        }
+    }
+}
+
 /// Tables with bad readings in any places: the library's own reports.
 #[test]
 fn bad_readings_are_told() {

@@ -1,9 +1,10 @@
-//! rates [DRAWS]: how often the original stops on tables like a survey's, and what can be shown all the same: DRAWS (200
-//! where none is given) drawn tables of each kind and shape, always the same ones. Prints four tables for docs/GUIDE.md:
-//! with the default settings, for shapes with few passes and then for others, how many of a hundred stopped and the
-//! median of the passes of those that settled; over all these shapes, how many stopped and for how many of them the
-//! readings confirm the strongest part; and how many stop at greater limits, up to the greatest that is allowed. With 200
-//! draws it takes about 50 seconds on one core, nearly all of it for the limit of 100,000.
+//! rates [DRAWS]: how often the original stops on tables like a survey's or ends quiet, and what can be shown all the
+//! same: DRAWS (200 where none is given) drawn tables of each kind and shape, always the same ones. Prints four tables
+//! for docs/GUIDE.md: with the default settings, for shapes with few passes and then for others, how many of a hundred
+//! stopped, the median of the passes of those that settled and, behind a `q`, how many of a hundred were quiet, where any
+//! were; over all these shapes, how many settled, stopped and were quiet, and for how many of the last two the readings
+//! confirm the strongest part; and how many stop at greater limits, up to the greatest that is allowed, and behind a `q`
+//! how many are quiet. With 200 draws it takes about 50 seconds on one core, nearly all of it for the limit of 100,000.
 
 use beside::{Report, Settings, run};
 
@@ -56,7 +57,21 @@ fn station_of_zeros(draw: &mut Draw, rows: usize, cols: usize, place: usize) -> 
     table
 }
 
+/// A survey of a calm roadway: all read 0 but one station, any of them, or but one pass.
+fn all_but_one(draw: &mut Draw, rows: usize, cols: usize, station: bool) -> Vec<f64> {
+    let mut table = survey(draw, rows, cols, 0.03, true);
+    let any = |draw: &mut Draw, many: usize| (draw.part() * many as f64) as usize;
+    let live = any(draw, if station { rows } else { cols });
+    for (at, reading) in table.iter_mut().enumerate() {
+        if live != if station { at / cols } else { at % cols } {
+            *reading = 0.0;
+        }
+    }
+    table
+}
+
 type Shape = (usize, usize);
+/// The readings of a table with so many columns, and mostly so many rows.
 type Table = fn(&mut Draw, usize, usize) -> Vec<f64>;
 type Kind = (&'static str, Table);
 
@@ -74,7 +89,7 @@ const FIRST_PASS: Kind = (
     |draw, rows, cols| pass_of_zeros(draw, rows, cols, 0),
 );
 
-const KINDS: [Kind; 15] = [
+const KINDS: [Kind; 19] = [
     ("any readings, -1 to 1", |draw, rows, cols| {
         (0..rows * cols).map(|_| draw.even()).collect()
     }),
@@ -131,6 +146,19 @@ const KINDS: [Kind; 15] = [
     ("all readings equal", |draw, rows, cols| {
         vec![(1.0 + 300.0 * draw.part()).round() / 100.0; rows * cols]
     }),
+    ("all readings 0", |_, rows, cols| vec![0.0; rows * cols]),
+    (
+        "all readings 0, of two stations alone (2 x passes)",
+        |_, _, cols| vec![0.0; 2 * cols],
+    ),
+    (
+        "survey, noise 3 %, read to 0.01, all but one station 0",
+        |draw, rows, cols| all_but_one(draw, rows, cols, true),
+    ),
+    (
+        "survey, noise 3 %, read to 0.01, all but one pass 0",
+        |draw, rows, cols| all_but_one(draw, rows, cols, false),
+    ),
 ];
 
 /// As surveys are: more stations than passes.
@@ -193,8 +221,27 @@ fn print_heads(first: &str, heads: &[String]) {
     println!("|---|{}", "---|".repeat(heads.len()));
 }
 
-/// Of each kind, how many stopped and how many of these were confirmed.
-type Sums = [(usize, usize); KINDS.len()];
+/// Of the tables of a kind, by word: how many ended so, and how many of these were confirmed.
+#[derive(Clone, Copy, Default)]
+struct Sum {
+    ended: [usize; 4],
+    well: [usize; 4],
+}
+
+type Sums = [Sum; KINDS.len()];
+
+/// So many of a hundred.
+fn share(many: usize, draws: usize) -> String {
+    format!("{} %", (1000.0 * many as f64 / draws as f64).round() / 10.0)
+}
+
+/// What stands behind a cell where some were quiet.
+fn quiet(many: usize, told: String) -> String {
+    match many {
+        0 => String::new(),
+        _ => format!(", q {told}"),
+    }
+}
 
 fn print_shapes(shapes: &[Shape], draws: usize, sums: &mut Sums) {
     let heads: Vec<String> = shapes
@@ -202,11 +249,12 @@ fn print_shapes(shapes: &[Shape], draws: usize, sums: &mut Sums) {
         .map(|(rows, cols)| format!("{rows} x {cols}"))
         .collect();
     print_heads("tables", &heads);
-    for ((name, table), (stopped, well)) in KINDS.into_iter().zip(sums) {
+    for ((name, table), sum) in KINDS.into_iter().zip(sums) {
         let mut cells = Vec::new();
         for &(rows, cols) in shapes {
-            let mut settled = Vec::new();
+            let (mut settled, mut ended) = (Vec::new(), [0; 4]);
             for readings in drawn(table, (rows, cols), draws) {
+                let rows = readings.len() / cols;
                 let (mut matrix, mut u, mut v) = (readings.clone(), identity(rows), identity(cols));
                 let report = run(
                     rows,
@@ -215,19 +263,26 @@ fn print_shapes(shapes: &[Shape], draws: usize, sums: &mut Sums) {
                     Some((&mut u, &mut v)),
                     &Settings::DEFAULT,
                 );
+                let word = report.word as usize;
+                ended[word] += 1;
+                sum.ended[word] += 1;
                 if report.word == Report::SETTLED {
                     settled.push(report.passes);
                 } else {
-                    *stopped += 1;
-                    *well += usize::from(confirmed(&readings, &matrix, (&u, &v), (rows, cols)));
+                    let well = confirmed(&readings, &matrix, (&u, &v), (rows, cols));
+                    sum.well[word] += usize::from(well);
                 }
             }
             settled.sort_unstable();
-            let share = 1.0 - settled.len() as f64 / draws as f64;
             let passes = settled
                 .get(settled.len() / 2)
                 .map_or("-".to_string(), u64::to_string);
-            cells.push(format!("{} % ({passes})", (1000.0 * share).round() / 10.0));
+            let [_, _, stopped, calm] = ended;
+            cells.push(format!(
+                "{} ({passes}){}",
+                share(stopped, draws),
+                quiet(calm, share(calm, draws))
+            ));
         }
         println!("| {name} | {} |", cells.join(" | "));
     }
@@ -235,10 +290,21 @@ fn print_shapes(shapes: &[Shape], draws: usize, sums: &mut Sums) {
 }
 
 fn print_sums(drawn: usize, sums: &Sums) {
-    let heads = ["stopped", "strongest part confirmed"].map(str::to_string);
+    let heads = [
+        "settled",
+        "stopped",
+        "strongest part confirmed",
+        "quiet",
+        "strongest part confirmed",
+    ];
+    let heads = heads.map(str::to_string);
     print_heads(&format!("tables, {drawn} of all these shapes"), &heads);
-    for ((name, _), (stopped, well)) in KINDS.iter().zip(sums) {
-        println!("| {name} | {stopped} | {well} of {stopped} |");
+    for ((name, _), sum) in KINDS.iter().zip(sums) {
+        let [_, settled, stopped, quiet] = sum.ended;
+        let [.., of_stopped, of_quiet] = sum.well;
+        println!(
+            "| {name} | {settled} | {stopped} | {of_stopped} of {stopped} | {quiet} | {of_quiet} of {quiet} |"
+        );
     }
     println!();
 }
@@ -251,11 +317,15 @@ fn print_limits(kinds: &[(Shape, Kind)], draws: usize) {
                 limit,
                 ..Settings::DEFAULT
             };
-            let stopped = drawn(table, (rows, cols), draws)
-                .map(|mut matrix| run(rows, cols, &mut matrix, None, &settings))
-                .filter(|report| report.word == Report::STOPPED)
-                .count();
-            format!("{stopped} of {draws}")
+            let mut ended = [0; 4];
+            for mut matrix in drawn(table, (rows, cols), draws) {
+                ended[run(rows, cols, &mut matrix, None, &settings).word as usize] += 1;
+            }
+            let [_, _, stopped, calm] = ended;
+            format!(
+                "{stopped} of {draws}{}",
+                quiet(calm, format!("{calm} of {draws}"))
+            )
         });
         println!("| {rows} x {cols}, {name} | {} |", cells.join(" | "));
     }
@@ -265,7 +335,7 @@ fn main() {
     let draws = std::env::args()
         .nth(1)
         .map_or(200, |word| word.parse().expect("a number"));
-    let mut sums = [(0, 0); KINDS.len()];
+    let mut sums = [Sum::default(); KINDS.len()];
     print_shapes(&FEW_PASSES, draws, &mut sums);
     print_shapes(&OTHERS, draws, &mut sums);
     print_sums(draws * (FEW_PASSES.len() + OTHERS.len()), &sums);

@@ -2,7 +2,7 @@
 //! `texts summary` prints instead the line that it is to print of them, and `texts split` the answer
 //! to the survey text of standard input; `texts lot SEED FIRST END` prints drawn texts with their
 //! answers, as many as the program has room for, and on standard error how many; `texts met SEED MANY`
-//! says how many surveys of the first drawn texts have bad readings.
+//! says how many surveys of the first drawn texts have bad readings, and how many end with which word.
 
 use std::io::{self, Read, Write};
 
@@ -19,10 +19,11 @@ fn main() -> io::Result<()> {
     }
     let number = |at: usize| -> u64 { words[at].parse().expect("a number") };
     if words.first().map(String::as_str) == Some("met") {
-        let [refused, several] = beside::texts::met(number(1), number(2));
+        let [refused, several, settled, stopped, quiet] = beside::texts::met(number(1), number(2));
         return writeln!(
             out,
-            "surveys refused 8: {refused}, with more than one bad reading: {several}"
+            "surveys refused 8: {refused}, with more than one bad reading: {several}; settled {settled}, \
+             stopped {stopped}, quiet {quiet}"
         );
     }
     if words.first().map(String::as_str) == Some("lot") {

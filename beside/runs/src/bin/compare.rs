@@ -5,6 +5,7 @@
 
 use beside::Report;
 use beside::kinds::{Sizes, TABLES, drawn};
+use beside::quiet;
 use beside::readings::{self, COUNTS};
 use beside::run::Run;
 use runs::lots::{self, all, ended, met, number};
@@ -21,8 +22,11 @@ struct Counts {
     bad: [u64; COUNTS.len()],
     /// Refused by another number, with bad readings as well.
     before: u64,
-    words: [u64; 3],
-    tables: [[u64; 4]; TABLES.len()],
+    words: [u64; 4],
+    /// Of the runs that have not settled.
+    corners: [u64; quiet::COUNTS.len()],
+    /// By word, and with a NaN or an infinity afterwards.
+    tables: [[u64; 5]; TABLES.len()],
     shapes: Vec<u64>,
     greater: u64,
     /// Stopped with as many passes as the bound allows.
@@ -44,8 +48,9 @@ impl lots::Counts for Counts {
             numbers: [0; 9],
             bad: [0; COUNTS.len()],
             before: 0,
-            words: [0; 3],
-            tables: [[0; 4]; TABLES.len()],
+            words: [0; 4],
+            corners: [0; quiet::COUNTS.len()],
+            tables: [[0; 5]; TABLES.len()],
             shapes: vec![0; 48 * 48],
             greater: 0,
             reached: 0,
@@ -67,6 +72,7 @@ impl lots::Counts for Counts {
         add(&mut self.bad, &other.bad);
         self.before += other.before;
         add(&mut self.words, &other.words);
+        add(&mut self.corners, &other.corners);
         add(&mut self.shapes, &other.shapes);
         add(&mut self.meetings, &other.meetings);
         for (to, from) in self.tables.iter_mut().zip(&other.tables) {
@@ -113,10 +119,15 @@ impl Counts {
         self.reached += u64::from(seen.reached);
         self.nan += u64::from(seen.nan && number == 0);
         self.infinite += u64::from(seen.infinite && number == 0);
-        self.tables[table][3] += u64::from((seen.nan || seen.infinite) && number == 0);
+        self.tables[table][4] += u64::from((seen.nan || seen.infinite) && number == 0);
         self.passes += passes;
         self.drops += drops;
         self.most = self.most.max(passes);
+        if let Some(corner) = &seen.corner {
+            for (many, (_, is)) in self.corners.iter_mut().zip(quiet::COUNTS) {
+                *many += u64::from(is(corner));
+            }
+        }
         if let Some(order) = &seen.order {
             self.ordered += 1;
             for (many, (_, met)) in self.meetings.iter_mut().zip(MEETINGS) {
@@ -131,9 +142,15 @@ impl Counts {
             self.runs, self.calls
         );
         println!(
-            "accepted {}: settled {}, stopped {}",
-            self.numbers[0], self.words[1], self.words[2]
+            "accepted {}: settled {}, stopped {}, quiet {}",
+            self.numbers[0],
+            self.words[1],
+            self.words[2],
+            met(self.words[3])
         );
+        for (many, (name, _)) in self.corners.iter().zip(quiet::COUNTS) {
+            println!("  {name}: {}", met(*many));
+        }
         for number in 1..9 {
             println!("refused {number}: {}", self.numbers[number]);
         }
@@ -165,11 +182,11 @@ impl Counts {
             println!("  {name}: {}", met(*many));
         }
         println!(
-            "{:28}{:>10}{:>10}{:>10}{:>16}",
-            "table", "settled", "stopped", "refused", "NaN or infinity"
+            "{:28}{:>10}{:>10}{:>10}{:>10}{:>16}",
+            "table", "settled", "stopped", "quiet", "refused", "NaN or infinity"
         );
-        for (name, [refused, settled, stopped, strange]) in TABLES.iter().zip(self.tables) {
-            println!("{name:28}{settled:>10}{stopped:>10}{refused:>10}{strange:>16}");
+        for (name, [refused, settled, stopped, quiet, strange]) in TABLES.iter().zip(self.tables) {
+            println!("{name:28}{settled:>10}{stopped:>10}{quiet:>10}{refused:>10}{strange:>16}");
         }
     }
 }

@@ -1,15 +1,15 @@
 -- What `isZero` says: of the values of a format it tells +0 and -0 from all others, it is the comparison with 0 that
 -- the code makes, and the magnitude of a zero is below what 0 is below. Assumes nothing.
-use mathlib.Core.Path.{_≡_, refl, sym, ap, _∙_}
+use mathlib.Core.Path.{_≡_, refl, sym, _∙_}
 use mathlib.Core.Logic.{_⊎_, inl, inr}
 use mathlib.Core.Bool.{Bool, true, false, _||_, Bool·beq, false≢true}
 use Prim.Native.Nat.{ℕ, zero, suc, _*_, _^_, _<_}
-use native.Mathlib.Nat.{zero-mul, mul-pos, zero-lt-suc, pow-suc}
+use native.Mathlib.Nat.{mul-pos, zero-lt-suc, pow-suc}
 use native.Mathlib.Omega.{arith}
 use lib.Dec.{eqb}
 use lib.Pow.{pow-pos}
 use lib.IntN.{ℤ, pos, negsuc}
-use lib.Ieee.{Float, nan, inf, fin, Format, up, down, below, lt, eq, fits}
+use lib.Ieee.{Float, nan, inf, fin, Format, up, down, lt, eq, fits}
 use lib.Ieee.Fits.{up-pos, down-pos}
 use borrow.Author.Tests.{eqb-true, eq-eqb, ne-eqb, le-ltb, lt-ltb}
 use Rattle.method.specs.Floats.{plusZero, magnitude, isZero}

@@ -10,7 +10,7 @@ use native.Mathlib.Numerals.{add-one}
 use native.Mathlib.Omega.{arith}
 use lib.Ieee.{Float}
 use Rattle.method.specs.Floats.{isZero}
-use Rattle.method.specs.Repeated.{repeated, repeated-none, repeated-next, repeated-same}
+use Rattle.method.specs.Repeated.{repeated-none, repeated-next, repeated-same}
 use Rattle.method.specs.Chase.{coupling}
 use Rattle.method.specs.Checks.Tests.{Says, both, holds}
 use Rattle.method.specs.Quiet.{quietCorner, QuietCorner}

@@ -1,6 +1,6 @@
 -- What the word says of the range left and of the table, and that walk and matrix alone decide the report. Assumes
 -- nothing.
-use mathlib.Core.Path.{_≡_, refl, sym, ap, _∙_}
+use mathlib.Core.Path.{_≡_, refl, ap}
 use mathlib.Core.Logic.{_↔_}
 use mathlib.Core.Bool.{Bool, true, false}
 use mathlib.Core.List.{List}
@@ -8,10 +8,10 @@ use Prim.Native.Nat.{ℕ, _≤_, _<_}
 use native.Mathlib.Omega.{arith}
 use lib.Dec.{eqb}
 use lib.Ieee.{Float}
-use borrow.Author.Tests.{eqb-true, eqb-false, eq-eqb, ne-eqb}
+use borrow.Author.Tests.{eqb-true, eqb-false}
 use Rattle.method.specs.Floats.{pick}
 use Rattle.method.specs.Work.{Work}
-use Rattle.method.specs.Walk.{Walk, State, stands}
+use Rattle.method.specs.Walk.{State}
 use Rattle.method.specs.Checks.Tests.{denies}
 use Rattle.method.specs.Quiet.{QuietCorner, quietCorner}
 use Rattle.method.specs.Quiet.Laws.{quiet-says}

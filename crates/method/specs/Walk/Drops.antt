@@ -7,7 +7,7 @@ use native.Mathlib.Omega.{arith}
 use mathlib.Core.Path.{_≡_, refl, sym, ap, _∙_}
 use mathlib.Core.Bool.{true, false}
 use Rattle.method.specs.Walk.{Tally, Rules, State, stands, start, afterDrop, going, pass, run, enough, walked}
-use Rattle.method.specs.Walk.Run.{Going, going-true, true-going, narrow, ended, pass-drop, pass-keeps}
+use Rattle.method.specs.Walk.Run.{Going, going-true, true-going, narrow, pass-drop, pass-keeps}
 use Rattle.method.specs.Walk.Run.{run-more, run-keeps, run-add, run-next, run-same}
 use Rattle.method.specs.Walk.Counts.{walked-done}
 use Rattle.method.specs.Walk.Applied.{applied, walked-applied}
