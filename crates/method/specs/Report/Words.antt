@@ -8,14 +8,15 @@ use Prim.Native.Nat.{ℕ, _≤_, _<_}
 use native.Mathlib.Omega.{arith}
 use lib.Dec.{eqb}
 use lib.Ieee.{Float}
-use borrow.Author.Tests.{eqb-true, eqb-false}
+use borrow.Author.Tests.{eqb-true, eqb-false, eq-eqb, ne-eqb}
 use Rattle.method.specs.Floats.{pick}
 use Rattle.method.specs.Work.{Work}
 use Rattle.method.specs.Walk.{State}
 use Rattle.method.specs.Checks.Tests.{denies}
 use Rattle.method.specs.Quiet.{QuietCorner, quietCorner}
 use Rattle.method.specs.Quiet.Laws.{quiet-says}
-use Rattle.method.specs.Report.{Word, settled, stopped, quiet, wordNumber, wordOf, reported}
+use Rattle.method.specs.Checks.{Refusal, notRefused}
+use Rattle.method.specs.Report.{Word, settled, stopped, quiet, wordNumber, wordOf, Report, reported}
 
 -- of a table a and the range r that a walk left: what its word says, and so which word it is
 pub record TrueWord (upper : Bool) (stride r : ℕ) (a : List Float) (w : Word) : Type 0 where
@@ -70,6 +71,28 @@ module _ (upper : Bool) (stride : ℕ) (s : State Work) where
             quiet = (λ w. apart w (λ z. omega arith), λ h. absurd (loud (h .1)));
             stopped = (λ w. (omega arith, loud), λ h. refl);
           }
+
+  -- ---- as the code finds it
+
+  abbrev named : Refusal → Word → Report
+  named r w = record { refusal = r; word = w; tally = s .walk .tally }
+
+  module _ (r : Refusal) (e : r ≡ notRefused) where
+    by-word : (w : Word) → wordOf upper stride s ≡ w → named r w ≡ reported upper stride s
+    by-word w q = rw (e, ← q) refl
+
+    pub reported-settled : range ≡ 1 → named r settled ≡ reported upper stride s
+    reported-settled one = by-word settled (rw (eq-eqb range 1 one) refl)
+
+    pub reported-quiet :
+        ¬ (range ≡ 1) → true ≡ quietCorner upper stride range (s .held .matrix) →
+        named r quiet ≡ reported upper stride s
+    reported-quiet more q = by-word quiet (rw (ne-eqb range 1 more, ← q) refl)
+
+    pub reported-stopped :
+        ¬ (range ≡ 1) → false ≡ quietCorner upper stride range (s .held .matrix) →
+        named r stopped ≡ reported upper stride s
+    reported-stopped more q = by-word stopped (rw (ne-eqb range 1 more, ← q) refl)
 
 -- two states with the same walk and the same matrix, whatever their factors, are reported alike
 pub reported-same :
