@@ -2,8 +2,8 @@
 -- and to leave in what it was lent. (That every call ends, without a fault, is what the checker shows of all code.)
 -- First the statements, `Demand1` to `Demand3`, then that they hold of every answer, and the laws of two calls; last,
 -- that each row of U and V goes its own way. They lean on the definition: `outcome`, `accepted` (method's Outcome), the
--- list `meanings` (method's Checks.Table), `FirstBad` (Checks.Readings), on `QuietCorner`, `BoundsAbove` (method's Quiet),
--- and on `OwnRows`, `rowAlone`, `ZeroRow`, `exchanged` (method's Rows). Assumes nothing.
+-- list `meanings` (method's Checks.Table), `FirstBad` (Checks.Readings), on `QuietCorner`, `BoundsAbove`, `AllZero`
+-- (method's Quiet), and on `OwnRows`, `rowAlone`, `ZeroRow`, `exchanged` (method's Rows). Assumes nothing.
 use mathlib.Core.Path.{_≡_, sym, ap, _∙_}
 use mathlib.Core.Logic.{_↔_}
 use mathlib.Core.Bool.{Bool, true, false}
@@ -19,6 +19,7 @@ use Rattle.method.specs.Walk.Applied.{applied}
 use Rattle.method.specs.Walk.Drops.{tallyDown}
 use Rattle.method.specs.Chase.{coupling}
 use Rattle.method.specs.Quiet.{QuietCorner, BoundsAbove}
+use Rattle.method.specs.Quiet.Calm.{AllZero, Calm, calm}
 use Rattle.method.specs.Settings.{mostLimit}
 use Rattle.method.specs.Checks.{nowhere, refusalOf}
 use Rattle.method.specs.Checks.First.{First}
@@ -39,7 +40,7 @@ use Rattle.checks.specs.Values.{settingsOf, placeIn, refusalIn}
 use Rattle.svd.specs.declared.report.Report.{Report}
 use Rattle.svd.specs.declared.report.Word.the-variants.{Settled, Stopped, Quiet}
 use Rattle.svd.specs.Values.{tallyOf, reportOf, wordIn}
-use Rattle.svd.specs.Answers.{report-one}
+use Rattle.svd.specs.Answers.{word-one, report-one}
 use Rattle.svd.specs.Told.{reportsOf, listsOf, told-number, told-place, told-alone, told-refused, told-accepted}
 use Rattle.svd.specs.Told.{told-true, told-made, told-due, told-done, told-spent, told-word, told-says}
 use Rattle.svd.specs.Told.{worded-fine, told-settles}
@@ -255,6 +256,23 @@ quiet-settles {kept} {rows} {cols} {n} {s} {s′} {w₀} {w} {w′} {r} {r′} a
     let fine = told-fine a (worded-fine kept rows cols s w₀ r w p Quiet e (λ z. omega arith)) in
     let q = rw g at (a′ .promise) ∙ told-settles kept rows cols s w₀ n more most _ p room fine (ap wordIn e) above in
     (reportsOf q, listsOf q)
+
+-- A calm roadway. Where every reading is +0 or -0 and c is above 1, a call that is not refused answers quiet, at every
+-- allowed setting: it swept as often as the limit says and dropped nothing, the whole range is left, and the table is
+-- zeros still.
+pub calm-quiet :
+    {kept : Bool} {rows cols : ℕ} {s : Settings} {w₀ w : Work} {r : Report} →
+    Allowed kept rows cols s w₀ r w →
+    r .refusal .number ≡ 0 →
+    1 < card rows cols →
+    AllZero (w₀ .matrix) →
+    (r .word ≡ Quiet)
+    × (tallyOf (r .tally) ≡ record { range = card rows cols; passes = s .limit; sweeps = s .limit; drops = 0 })
+    × AllZero (w .matrix)
+calm-quiet {kept} {rows} {cols} {s} {w₀} {w} {r} a e more zeros =
+    let k : Calm (s .limit) (card rows cols) (outcomeOf (reportOf r) w) =
+    rw (a .promise) (calm binary64 kept rows cols (settingsOf s) w₀ (told-fine a e) more zeros) in
+    (word-one (r .word) Quiet (k .word), k .tally, k .matrix)
 
 -- ---- each station keeps its own row, and each pass (method's Rows)
 
