@@ -45,11 +45,11 @@ module _ (upper : Bool) (stride : ℕ) (b : List Float) where
       go true = omega (arith, row-next k stride)
       go false = omega (arith, row-next k stride, row-next (k + 1) stride)
 
-  -- before the coupling numbered `next` - 1, which stands at `at`, all are zero
-  pub record Inv (at next : ℕ) : Type 0 where
-    pub some : 1 ≤ next
-    pub place : at ≡ couplingPlace upper stride (next - 1)
-    pub quiet : quietCorner upper stride next b ≡ true
+  -- the corner of range `known` is quiet, and its next coupling stands at `at`
+  pub record Inv (at known : ℕ) : Type 0 where
+    pub some : 1 ≤ known
+    pub place : at ≡ couplingPlace upper stride (known - 1)
+    pub quiet : quietCorner upper stride known b ≡ true
 
   pub inv-start : (at : ℕ) → at ≡ pick upper 1 stride → Inv at 1
   inv-start at e = record { some = omega arith; place = e ∙ go upper; quiet = quiet-none upper stride b 1 (omega arith) }
@@ -58,52 +58,52 @@ module _ (upper : Bool) (stride : ℕ) (b : List Float) where
       go true = omega arith
       go false = omega arith
 
-  module _ {at next : ℕ} (i : Inv at next) where
-    here : getD b at nan ≡ coupling upper stride (next - 1) b
-    here = rw (i .place) (sym (at-place (next - 1)))
+  module _ {at known : ℕ} (i : Inv at known) where
+    here : getD b at nan ≡ coupling upper stride (known - 1) b
+    here = rw (i .place) (sym (at-place (known - 1)))
 
     -- the coupling is zero, and with it one more
-    more : isZero (getD b at nan) ≡ true → quietCorner upper stride (next + 1) b ≡ true
+    more : isZero (getD b at nan) ≡ true → quietCorner upper stride (known + 1) b ≡ true
     more z =
-        let e : next + 1 ≡ next - 1 + 2 = omega (arith, i .some) in
-        let d : next - 1 + 1 ≡ next = omega (arith, i .some) in
-        let before : quietCorner upper stride (next - 1 + 1) b ≡ true = rw d (i .quiet) in
-        let one : isZero (coupling upper stride (next - 1) b) ≡ true = rw (← here) z in
-        rw (e, quiet-next upper stride b (next - 1), before, one) refl
+        let e : known + 1 ≡ known - 1 + 2 = omega (arith, i .some) in
+        let d : known - 1 + 1 ≡ known = omega (arith, i .some) in
+        let before : quietCorner upper stride (known - 1 + 1) b ≡ true = rw d (i .quiet) in
+        let one : isZero (coupling upper stride (known - 1) b) ≡ true = rw (← here) z in
+        rw (e, quiet-next upper stride b (known - 1), before, one) refl
 
-    pub inv-next : isZero (getD b at nan) ≡ true → Inv (at + stride + 1) (next + 1)
+    pub inv-next : isZero (getD b at nan) ≡ true → Inv (at + stride + 1) (known + 1)
     inv-next z =
-        let d : next + 1 - 1 ≡ next - 1 + 1 = omega (arith, i .some) in
+        let d : known + 1 - 1 ≡ known - 1 + 1 = omega (arith, i .some) in
         record {
           some = omega arith;
-          place = rw (d, next-place (next - 1), ← i .place) refl;
+          place = rw (d, next-place (known - 1), ← i .place) refl;
           quiet = more z;
         }
 
     module _ (range : ℕ) where
       -- it is not, and the corner is not quiet
-      pub inv-loud : next < range → isZero (getD b at nan) ≡ false → false ≡ quietCorner upper stride range b
+      pub inv-loud : known < range → isZero (getD b at nan) ≡ false → false ≡ quietCorner upper stride range b
       inv-loud h z =
-          sym (not-quiet upper stride b range (next - 1) (omega (arith, i .some)) (rw (← here) z))
+          sym (not-quiet upper stride b range (known - 1) (omega (arith, i .some)) (rw (← here) z))
 
       -- all were looked at
-      pub inv-done : range ≤ next → true ≡ quietCorner upper stride range b
+      pub inv-done : range ≤ known → true ≡ quietCorner upper stride range b
       inv-done h =
           sym
           (quiet-says upper stride b range .1
-          (λ k l. quiet-says upper stride b next .0 (i .quiet) k (omega arith)))
+          (λ k l. quiet-says upper stride b known .0 (i .quiet) k (omega arith)))
 
   -- the list ends before the next coupling
   pub inv-ends :
-      {at next : ℕ} → Inv at next →
-      (range : ℕ) → next < range → isZero (getD b at nan) ≡ true → length b - at ≤ stride →
-      leb range (next + 1) ≡ quietCorner upper stride range b
-  inv-ends {at} {next} i range h z short = go (leb range (next + 1)) refl
+      {at known : ℕ} → Inv at known →
+      (range : ℕ) → known < range → isZero (getD b at nan) ≡ true → length b - at ≤ stride →
+      leb range (known + 1) ≡ quietCorner upper stride range b
+  inv-ends {at} {known} i range h z short = go (leb range (known + 1)) refl
     where
-      j : Inv (at + stride + 1) (next + 1)
+      j : Inv (at + stride + 1) (known + 1)
       j = inv-next i z
 
-      go : (t : Bool) → leb range (next + 1) ≡ t → t ≡ quietCorner upper stride range b
-      go true t = inv-done j range (leb-true range (next + 1) t)
+      go : (t : Bool) → leb range (known + 1) ≡ t → t ≡ quietCorner upper stride range b
+      go true t = inv-done j range (leb-true range (known + 1) t)
       go false t =
-          inv-loud j range (leb-false range (next + 1) t) (behind b (at + stride + 1) (omega (arith, inside b at z)))
+          inv-loud j range (leb-false range (known + 1) t) (behind b (at + stride + 1) (omega (arith, inside b at z)))

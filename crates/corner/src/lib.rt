@@ -21,7 +21,8 @@ fn zero_at(b: &[f64], at: usize) -> bool
 
 // Whether the corner of a range is quiet, in a table whose rows start `stride` entries apart. Its
 // couplings stand right of the diagonal in the upper form and below it in the lower, from one to the
-// next a row and an entry further. Where one lies behind the list's end, it is none of zero.
+// next a row and an entry further. One that lies behind the end of the list is not zero. The corner
+// of range `known` is known to be quiet, and the coupling at `at` is the next one.
 pub fn is_quiet(b: &[f64], stride: usize, upper: bool, range: usize) -> bool
     ensures { λ r. ⌜ r ≡ quietCorner upper stride range (now (b .entry)) ⌝ }
 {
@@ -29,14 +30,14 @@ pub fn is_quiet(b: &[f64], stride: usize, upper: bool, range: usize) -> bool
     if upper {
         at = 1;
     }
-    let mut next = 1;
-    while next < range {
+    let mut known = 1;
+    while known < range {
         if !zero_at(b, at) {
             return false;
         }
-        next += 1;
+        known += 1;
         if b.len() - at <= stride {
-            return range <= next;
+            return range <= known;
         }
         at = at + stride + 1;
     }

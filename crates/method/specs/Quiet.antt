@@ -4,6 +4,8 @@
 pub mod Laws
 pub mod Drops
 pub mod Cases
+pub mod Zeros
+pub mod Calm
 use mathlib.Core.Path.{_≡_}
 use mathlib.Core.Bool.{Bool, true, _&&_}
 use mathlib.Core.List.{List}

@@ -2,8 +2,8 @@
 -- and to leave in what it was lent. (That every call ends, without a fault, is what the checker shows of all code.)
 -- First the statements, `Demand1` to `Demand3`, then that they hold of every answer, and the laws of two calls; last,
 -- that each row of U and V goes its own way. They lean on the definition: `outcome`, `accepted` (method's Outcome), the
--- list `meanings` (method's Checks.Table), `FirstBad` (Checks.Readings), and on `OwnRows`, `rowAlone`, `ZeroRow`,
--- `exchanged` (method's Rows). Assumes nothing.
+-- list `meanings` (method's Checks.Table), `FirstBad` (Checks.Readings), on `QuietCorner`, `BoundsAbove`, `AllZero`
+-- (method's Quiet), and on `OwnRows`, `rowAlone`, `ZeroRow`, `exchanged` (method's Rows). Assumes nothing.
 use mathlib.Core.Path.{_≡_, sym, ap, _∙_}
 use mathlib.Core.Logic.{_↔_}
 use mathlib.Core.Bool.{Bool, true, false}
@@ -17,7 +17,9 @@ use Rattle.method.specs.Work.{Work, work, packed}
 use Rattle.method.specs.Walk.{Rules, State, start, going, run}
 use Rattle.method.specs.Walk.Applied.{applied}
 use Rattle.method.specs.Walk.Drops.{tallyDown}
+use Rattle.method.specs.Chase.{coupling}
 use Rattle.method.specs.Quiet.{QuietCorner, BoundsAbove}
+use Rattle.method.specs.Quiet.Calm.{AllZero, Calm, calm}
 use Rattle.method.specs.Settings.{mostLimit}
 use Rattle.method.specs.Checks.{nowhere, refusalOf}
 use Rattle.method.specs.Checks.First.{First}
@@ -25,10 +27,9 @@ use Rattle.method.specs.Checks.Readings.{FirstBad}
 use Rattle.method.specs.Checks.Table.{meanings, numbers, none-counted}
 use Rattle.method.specs.Report as Report
 use Rattle.method.specs.Report.{refused}
-use Rattle.method.specs.Outcome.{Outcome, outcomeOf, shownBy, card, isUpper, rulesFor, formOf, accepted, outcome}
+use Rattle.method.specs.Outcome.{outcomeOf, shownBy, card, isUpper, rulesFor, formOf, accepted, outcome}
 use Rattle.method.specs.Outcome.{plainOutcome, fullOutcome}
 use Rattle.method.specs.Outcome.Reports.{accepted-exposed, atLimit, settledReport}
-use Rattle.method.specs.Outcome.Calls as Calls
 use Rattle.method.specs.Outcome.Calls.{calls-agree, settled-stays}
 use Rattle.method.specs.Fill.{identity}
 use Rattle.method.specs.View.{rowOf}
@@ -37,13 +38,12 @@ use Rattle.method.specs.Rows.Calls.{calls-own, calls-alone, calls-zero, calls-e
 use Rattle.checks.specs.declared.settings.Settings.{Settings}
 use Rattle.checks.specs.Values.{settingsOf, placeIn, refusalIn}
 use Rattle.svd.specs.declared.report.Report.{Report}
-use Rattle.svd.specs.declared.report.Word.{Word}
-use Rattle.svd.specs.declared.report.Word.the-variants.{None, Settled, Stopped, Quiet}
+use Rattle.svd.specs.declared.report.Word.the-variants.{Settled, Stopped, Quiet}
 use Rattle.svd.specs.Values.{tallyOf, reportOf, wordIn}
-use Rattle.svd.specs.Answers.{report-one}
+use Rattle.svd.specs.Answers.{word-one, report-one}
 use Rattle.svd.specs.Told.{reportsOf, listsOf, told-number, told-place, told-alone, told-refused, told-accepted}
 use Rattle.svd.specs.Told.{told-true, told-made, told-due, told-done, told-spent, told-word, told-says}
-use Rattle.svd.specs.Told.{worded-fine}
+use Rattle.svd.specs.Told.{worded-fine, told-settles}
 
 -- ---- what a call may answer
 
@@ -68,8 +68,8 @@ module _ (rows cols : ℕ) (s : Settings) (r : Report) where
   plain-allowed b₀ b e = record { promise = e }
 
 -- what is left of the table is quiet: every coupling inside the corner of the range that is told
-abbrev pub still : ℕ → ℕ → Report → Work → Type 0
-still rows cols r w = QuietCorner (isUpper rows cols) cols (r .tally .range) (w .matrix)
+abbrev pub LeftQuiet : ℕ → ℕ → Report → Work → Type 0
+LeftQuiet rows cols r w = QuietCorner (isUpper rows cols) cols (r .tally .range) (w .matrix)
 
 module _ (kept : Bool) (rows cols : ℕ) (s : Settings) (w₀ : Work) where
   -- where the definition's walk starts: with the bidiagonal form
@@ -135,8 +135,8 @@ module _ (kept : Bool) (rows cols : ℕ) (s : Settings) (w₀ : Work) (r : Repor
     -- inside the live corner of that range is +0 or -0, `stopped` that one is not
     pub settled : (r .word ≡ Settled) ↔ (r .tally .range ≡ 1)
     pub spent : 1 < r .tally .range → s .limit ≤ after kept rows cols s w₀ (r .tally .passes) .walk .counter
-    pub quiet : (r .word ≡ Quiet) ↔ ((1 < r .tally .range) × still rows cols r w)
-    pub stopped : (r .word ≡ Stopped) ↔ ((1 < r .tally .range) × (¬ still rows cols r w))
+    pub quiet : (r .word ≡ Quiet) ↔ ((1 < r .tally .range) × LeftQuiet rows cols r w)
+    pub stopped : (r .word ≡ Stopped) ↔ ((1 < r .tally .range) × (¬ LeftQuiet rows cols r w))
 
 -- ---- they hold of every answer
 
@@ -211,10 +211,6 @@ kept-or-not {rows} {cols} {s} {b₀} {u₀} {v₀} {r = r} {r′ = r′} a a′ 
       ap matrix (listsOf (a .promise)) ∙ q .1 ∙ sym (ap matrix (listsOf (a′ .promise))),
     )
 
--- a word that is none of `none`'s number is not `none`
-none-apart : {w : Word} (v : Word) → w ≡ v → w ≡ None → (Report.wordNumber (wordIn v) ≡ 0 → ⊥) → ⊥
-none-apart v e q differ = differ (ap (λ (x : Word). Report.wordNumber (wordIn x)) (sym e ∙ q))
-
 -- a settled answer is, U and V included, the same answer at every greater allowed limit n, all else equal
 pub settled-stands :
     {kept : Bool} {rows cols n : ℕ} {s s′ : Settings} {w₀ w w′ : Work} {r r′ : Report} →
@@ -227,26 +223,19 @@ pub settled-stands :
     (r′ ≡ r) × (w′ ≡ w)
 settled-stands {kept} {rows} {cols} {n} {s} {s′} {w₀} {w} {w′} {r} {r′} a a′ g more most e =
     let p = a .promise in
-    let fine = told-fine a (worded-fine kept rows cols s w₀ r w p (λ q. none-apart Settled e q (λ z. omega arith))) in
+    let fine = told-fine a (worded-fine kept rows cols s w₀ r w p Settled e (λ z. omega arith)) in
     let word = ap (λ (x : Report.Report). x .word) (sym (reportsOf p)) ∙ ap wordIn e in
     let same = settled-stays binary64 kept rows cols (settingsOf s) w₀ n more most fine word in
     let q = rw g at (a′ .promise) ∙ same ∙ sym p in
     (report-one r′ r (reportsOf q), listsOf q)
 
--- the law of the definition, of an outcome that equals its own
-settles :
-    (kept : Bool) (rows cols : ℕ) (s : Settings) (w₀ : Work) (n : ℕ) →
-    s .limit < n →
-    n ≤ mostLimit →
-    (o : Outcome) → o ≡ outcome binary64 kept rows cols (settingsOf s) w₀ →
-    let t = o .report .tally in
-    (s .credit ≡ 0 → s .limit + (t .range - 1) ≤ n) →
-    refusalOf kept rows cols (settingsOf s) w₀ .number ≡ 0 →
-    o .report .word ≡ Report.quiet →
-    BoundsAbove binary64 (s .tolerance) (s .absolute) cols (t .range) (o .held .matrix) →
-    outcome binary64 kept rows cols (atLimit n (settingsOf s)) w₀ ≡ outcomeOf (settledReport (tallyDown t)) (o .held)
-settles kept rows cols s w₀ n more most o p =
-    rw p (Calls.quiet-settles binary64 kept rows cols (settingsOf s) w₀ n more most)
+-- which entries make what is left quiet: the couplings inside the corner, and no others
+pub left-quiet-inside :
+    (rows cols : ℕ) (r : Report) (w w′ : Work) →
+    ((k : ℕ) → k + 1 < r .tally .range →
+    coupling (isUpper rows cols) cols k (w .matrix) ≡ coupling (isUpper rows cols) cols k (w′ .matrix)) →
+    LeftQuiet rows cols r w → LeftQuiet rows cols r w′
+left-quiet-inside rows cols r w w′ same q k h = rw (← same k h) (q k h)
 
 -- A quiet answer is not final. Where every bound inside its corner is above zero, a greater allowed limit n settles it by
 -- drops alone, one for each coupling inside: table, U and V stay as they are, bit for bit. (A coupling of zero is dropped
@@ -264,10 +253,26 @@ pub quiet-settles :
     (reportOf r′ ≡ settledReport (tallyDown (tallyOf (r .tally)))) × (w′ ≡ w)
 quiet-settles {kept} {rows} {cols} {n} {s} {s′} {w₀} {w} {w′} {r} {r′} a a′ g more most room e above =
     let p = a .promise in
-    let fine = told-fine a (worded-fine kept rows cols s w₀ r w p (λ q. none-apart Quiet e q (λ z. omega arith))) in
-    let q = rw g at (a′ .promise)
-    ∙ settles kept rows cols s w₀ n more most _ p room fine (ap wordIn e) above in
+    let fine = told-fine a (worded-fine kept rows cols s w₀ r w p Quiet e (λ z. omega arith)) in
+    let q = rw g at (a′ .promise) ∙ told-settles kept rows cols s w₀ n more most _ p room fine (ap wordIn e) above in
     (reportsOf q, listsOf q)
+
+-- A calm roadway. Where every reading is +0 or -0 and c is above 1, a call that is not refused answers quiet, at every
+-- allowed setting: it swept as often as the limit says and dropped nothing, the whole range is left, and the table is
+-- zeros still.
+pub calm-quiet :
+    {kept : Bool} {rows cols : ℕ} {s : Settings} {w₀ w : Work} {r : Report} →
+    Allowed kept rows cols s w₀ r w →
+    r .refusal .number ≡ 0 →
+    1 < card rows cols →
+    AllZero (w₀ .matrix) →
+    (r .word ≡ Quiet)
+    × (tallyOf (r .tally) ≡ record { range = card rows cols; passes = s .limit; sweeps = s .limit; drops = 0 })
+    × AllZero (w .matrix)
+calm-quiet {kept} {rows} {cols} {s} {w₀} {w} {r} a e more zeros =
+    let k : Calm (s .limit) (card rows cols) (outcomeOf (reportOf r) w) =
+    rw (a .promise) (calm binary64 kept rows cols (settingsOf s) w₀ (told-fine a e) more zeros) in
+    (word-one (r .word) Quiet (k .word), k .tally, k .matrix)
 
 -- ---- each station keeps its own row, and each pass (method's Rows)
 

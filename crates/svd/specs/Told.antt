@@ -3,7 +3,7 @@
 use mathlib.Core.Path.{_≡_, refl, sym, ap, subst, _∙_}
 use mathlib.Core.Logic.{_↔_, ⊎-elim}
 use mathlib.Core.Bool.{Bool, true, false}
-use Prim.Native.Nat.{ℕ, _≤_, _<_}
+use Prim.Native.Nat.{ℕ, _+_, _-_, _≤_, _<_}
 use native.Mathlib.Omega.{arith}
 use lib.Dec.{eqb}
 use lib.Ieee.{binary64}
@@ -20,7 +20,11 @@ use Rattle.method.specs.Report.{refused}
 use Rattle.method.specs.Outcome.{Outcome, outcomeOf, card, isUpper, rulesFor, formOf, walkedFrom, accepted, outcome}
 use Rattle.method.specs.Outcome.Refused.{refused-outcome, accepted-outcome, outcome-refusal, outcome-number}
 use Rattle.method.specs.Report.Words.{TrueWord}
-use Rattle.method.specs.Outcome.Reports.{TrueReport, accepted-true, accepted-word}
+use Rattle.method.specs.Outcome.Reports.{TrueReport, accepted-true, accepted-word, settledReport, atLimit}
+use Rattle.method.specs.Outcome.Calls.{quiet-settles}
+use Rattle.method.specs.Settings.{mostLimit}
+use Rattle.method.specs.Walk.Drops.{tallyDown}
+use Rattle.method.specs.Quiet.{BoundsAbove}
 use Rattle.checks.specs.declared.settings.Settings.{Settings}
 use Rattle.checks.specs.Values.{settingsOf, refusalIn}
 use Rattle.svd.specs.declared.report.Report.{Report}
@@ -35,6 +39,25 @@ reportsOf e = ap (λ (o : Outcome). o .report) e
 
 abbrev pub listsOf : {o o′ : Outcome} → o ≡ o′ → o .held ≡ o′ .held
 listsOf e = ap (λ (o : Outcome). o .held) e
+
+-- by their numbers the words differ
+abbrev numbered : Word → ℕ
+numbered w = Report.wordNumber (wordIn w)
+
+-- when a quiet outcome settles: the law of the definition, of an outcome that equals its own
+pub told-settles :
+    (kept : Bool) (rows cols : ℕ) (s : Settings) (w₀ : Work) (n : ℕ) →
+    s .limit < n →
+    n ≤ mostLimit →
+    (o : Outcome) → o ≡ outcome binary64 kept rows cols (settingsOf s) w₀ →
+    let t = o .report .tally in
+    (s .credit ≡ 0 → s .limit + (t .range - 1) ≤ n) →
+    refusalOf kept rows cols (settingsOf s) w₀ .number ≡ 0 →
+    o .report .word ≡ Report.quiet →
+    BoundsAbove binary64 (s .tolerance) (s .absolute) cols (t .range) (o .held .matrix) →
+    outcome binary64 kept rows cols (atLimit n (settingsOf s)) w₀ ≡ outcomeOf (settledReport (tallyDown t)) (o .held)
+told-settles kept rows cols s w₀ n more most o p =
+    rw p (quiet-settles binary64 kept rows cols (settingsOf s) w₀ n more most)
 
 module _ (kept : Bool) (rows cols : ℕ) (s : Settings) (w₀ : Work) (r : Report) (w : Work) where
   abbrev found : Checks.Refusal
@@ -87,15 +110,15 @@ module _ (kept : Bool) (rows cols : ℕ) (s : Settings) (w₀ : Work) (r : Repor
         let q = reportsOf (told-refused h) in
         q ∙ ap refused (sym (ap (λ (x : Report.Report). x .refusal) q))
 
-    -- what has a word was not refused
-    pub worded-fine : ¬ (r .word ≡ None) → r .refusal .number ≡ 0
-    worded-fine h = go (eqb (r .refusal .number) 0) refl
+    -- what has another word than `none` was not refused
+    pub worded-fine : (v : Word) → r .word ≡ v → ¬ (numbered v ≡ 0) → r .refusal .number ≡ 0
+    worded-fine v e some = go (eqb (r .refusal .number) 0) refl
       where
         go : (t : Bool) → eqb (r .refusal .number) 0 ≡ t → r .refusal .number ≡ 0
         go true t = eqb-true _ 0 t
         go false t =
-            absurd
-            (h (word-one (r .word) None (ap (λ (x : Report.Report). x .word) (told-alone (eqb-false _ 0 t)))))
+            let q = word-one (r .word) None (ap (λ (x : Report.Report). x .word) (told-alone (eqb-false _ 0 t))) in
+            absurd (some (ap numbered (sym e ∙ q)))
 
     module _ (e : r .refusal .number ≡ 0) where
       -- the report of an accepted run is true

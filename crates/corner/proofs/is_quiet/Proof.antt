@@ -15,10 +15,10 @@ use Rattle.corner.proofs.is_quiet.Statement.{statement}
 use Rattle.corner.proofs.is_quiet.Tie as tie
 
 abbrev Inv-loop : tie.InvT-loop
-Inv-loop b stride upper range at₀ next₀ at next = Inv upper stride b at next
+Inv-loop b stride upper range at₀ known₀ at known = Inv upper stride b at known
 
 abbrev μ-loop : tie.MeasureT-loop
-μ-loop b stride upper range at₀ next₀ at next = range - next
+μ-loop b stride upper range at₀ known₀ at known = range - known
 
 loop-holds : tie.Need-loop-holds Inv-loop μ-loop
 loop-holds c =

@@ -59,7 +59,7 @@ nought-is (fin s m e) z = inl (rw (z, zero-mul (up e), zero-mul (down e)) (go s)
 -- ---- rounding, products and sums
 
 -- 0, of any denominator, rounds to a zero
-round-nought : (f : Format) (s : Bool) (num den : ℕ) → 0 < den → num ≡ 0 → Nought (round f s num den)
+pub round-nought : (f : Format) (s : Bool) (num den : ℕ) → 0 < den → num ≡ 0 → Nought (round f s num den)
 round-nought f s num den h z =
     of-value (round f s num den)
     (round-exact f s num den 0 0 h (pow-pos (prec f)) (pow-pos (low f + suc (emax f)))

@@ -30,7 +30,7 @@ pub record Down {D : Type 0} (s e : State D) : Type 0 where
 abbrev tally : ℕ → ℕ → ℕ → ℕ → Tally
 tally r p s d = record { range = r; passes = p; sweeps = s; drops = d }
 
-same-tally :
+pub same-tally :
     {r r′ p p′ s s′ d d′ : ℕ} → r ≡ r′ → p ≡ p′ → s ≡ s′ → d ≡ d′ →
     tally r p s d ≡ tally r′ p′ s′ d′
 same-tally range passes sweeps drops = cc
