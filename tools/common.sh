@@ -2,7 +2,7 @@
 # All that is said here goes to standard error, so that standard output is the script's own.
 
 # The kit that the proofs were last checked with. Another one may do; `rt version` says which is at hand.
-KIT="rattle-kit-5b (logic 064da1ca440f63e7)"
+KIT="rattle-kit-5b-plain (logic 097e4c862dff5811)"
 
 say() { echo "$*" >&2; }
 fail() { say "${0##*/}: $*"; exit 1; }
