@@ -23,7 +23,7 @@ quietCorner upper stride r a = repeated 0 (r - 1) (λ k quiet. quiet && isZero (
 abbrev pub QuietCorner : Bool → ℕ → ℕ → List Float → Type 0
 QuietCorner upper stride r a = (k : ℕ) → k + 1 < r → isZero (coupling upper stride k a) ≡ true
 
--- below which bound a coupling inside the corner is negligible: each is above zero
+-- the bounds below which the couplings inside the corner are negligible: each is above zero
 abbrev pub BoundsAbove : Format → Float → Float → ℕ → ℕ → List Float → Type 0
 BoundsAbove f tolerance absolute stride r a =
     (k : ℕ) → k + 1 < r → lt plusZero (dropBound f tolerance absolute stride k a) ≡ true
