@@ -17,6 +17,7 @@ use Rattle.method.specs.Reflection.{rowsLess, reflectedLeft}
 use Rattle.method.specs.Bidiagonal.{columnMatrix, rowMatrix, factorReflected, columnZeroed, rowZeroed}
 use Rattle.method.specs.Bidiagonal.{placesZeroed, bidiagonal}
 use Rattle.method.specs.Chase.{turned, singular, negligible, steps, swept}
+use Rattle.method.specs.Moves.{stepsMoves, sweepMoves}
 use Rattle.method.specs.Quiet.{quietCorner}
 use Rattle.method.specs.Walk.{pass, run}
 use Rattle.method.specs.Checks.{counted, looked, badReadings, firstOf}
@@ -47,11 +48,11 @@ abbrev shifted : ℕ → ℕ → ℕ → ℕ → List ℕ
 shifted a b c d =
     bits (singular binary64 (ofBits binary64 a) (ofBits binary64 b) (ofBits binary64 c) (ofBits binary64 d) ∷ [])
 
--- number, word, passes, sweeps, drops and range left
+-- number, word, passes, sweeps, drops, range left and rotations
 abbrev pub ofReport : Report → List ℕ
 ofReport r =
     let t = r .tally in
-    r .refusal .number ∷ wordNumber (r .word) ∷ t .passes ∷ t .sweeps ∷ t .drops ∷ t .range ∷ []
+    r .refusal .number ∷ wordNumber (r .word) ∷ t .passes ∷ t .sweeps ∷ t .drops ∷ t .range ∷ t .rotations ∷ []
 
 abbrev pub given : ℕ → ℕ → Float → Settings
 given limit credit floor =
@@ -114,16 +115,16 @@ fourteen =
     -- and of (1, 0, 0, 2), 4
     ∷ (0x4010_0000_0000_0000 ∷ [])
     -- 1 x 1, -3: settled, 0 passes, -3
-    ∷ (0 ∷ 1 ∷ 0 ∷ 0 ∷ 0 ∷ 1 ∷ 0xc008_0000_0000_0000 ∷ [])
+    ∷ (0 ∷ 1 ∷ 0 ∷ 0 ∷ 0 ∷ 1 ∷ 0 ∷ 0xc008_0000_0000_0000 ∷ [])
     -- 1 x 2, (3, 4): settled, 0 passes, (-5, 0)
-    ∷ (0 ∷ 1 ∷ 0 ∷ 0 ∷ 0 ∷ 1 ∷ 0xc014_0000_0000_0000 ∷ 0 ∷ [])
+    ∷ (0 ∷ 1 ∷ 0 ∷ 0 ∷ 0 ∷ 1 ∷ 0 ∷ 0xc014_0000_0000_0000 ∷ 0 ∷ [])
     -- 2 x 2, (2, 0), (0, 1): settled, 1 pass, 1 drop, (-2, 0), (0, 1), and U is (-1, 0), (0, 1)
     ∷ (
-    0 ∷ 1 ∷ 1 ∷ 0 ∷ 1 ∷ 1 ∷ 0xc000_0000_0000_0000 ∷ 0 ∷ 0 ∷ 0x3ff0_0000_0000_0000 ∷ 0xbff0_0000_0000_0000 ∷ 0 ∷ 0
+    0 ∷ 1 ∷ 1 ∷ 0 ∷ 1 ∷ 1 ∷ 0 ∷ 0xc000_0000_0000_0000 ∷ 0 ∷ 0 ∷ 0x3ff0_0000_0000_0000 ∷ 0xbff0_0000_0000_0000 ∷ 0 ∷ 0
     ∷ 0x3ff0_0000_0000_0000 ∷ []
     )
-    -- 2 x 2 zeros, limit 3: quiet, 3 passes, 3 sweeps, 0 drops, range 2, zeros
-    ∷ (0 ∷ 3 ∷ 3 ∷ 3 ∷ 0 ∷ 2 ∷ 0 ∷ 0 ∷ 0 ∷ 0 ∷ [])
+    -- 2 x 2 zeros, limit 3: quiet, 3 passes, 3 sweeps, 0 drops, range 2, 6 rotations, zeros
+    ∷ (0 ∷ 3 ∷ 3 ∷ 3 ∷ 0 ∷ 2 ∷ 6 ∷ 0 ∷ 0 ∷ 0 ∷ 0 ∷ [])
     ∷ []
 
 pub cases : (computed (ofBits binary64 0x0010_0000_0000_0000) ≡ fourteen) × (computed defaultFloor ≡ fourteen)
@@ -131,7 +132,7 @@ unfolding ofBits toBits neg add sub mul div lt eq isNan magnitude signOf smaller
     repeated rotationOf pairTurned rowsTurned columnsTurned lineCopied lineCleared timesFrom largestOf scaled squaresOf
     reflectionOf rowTimes tailLess rowLess rowReflected reflectedRight rowAdded rowsAdded columnSums rowLessAll
     rowLessTimes lowerLess rowsLess reflectedLeft columnMatrix rowMatrix factorReflected columnZeroed rowZeroed
-    placesZeroed bidiagonal turned singular negligible steps swept quietCorner pass run counted looked badReadings firstOf accepted
+    placesZeroed bidiagonal turned singular negligible steps swept stepsMoves sweepMoves quietCorner pass run counted looked badReadings firstOf accepted
     outcome identity defaultTolerance defaultAbsolute defaultFloor
 cases = (refl, refl)
 
@@ -179,35 +180,35 @@ original =
     -- of (4, -3): by the cosine, where a is the larger
     ∷ (0x4014_0000_0000_0000 ∷ 0x3fe9_9999_9999_999a ∷ 0xbfe3_3333_3333_3334 ∷ [])
     -- 1 x 2, both readings below the floor: the row stays as found, and is not cleared as a column is
-    ∷ (0 ∷ 1 ∷ 0 ∷ 0 ∷ 0 ∷ 1 ∷ 0x39b4_484b_feeb_c2a0 ∷ 0x39b4_484b_feeb_c2a0 ∷ 0x3ff0_0000_0000_0000
+    ∷ (0 ∷ 1 ∷ 0 ∷ 0 ∷ 0 ∷ 1 ∷ 0 ∷ 0x39b4_484b_feeb_c2a0 ∷ 0x39b4_484b_feeb_c2a0 ∷ 0x3ff0_0000_0000_0000
     ∷ 0x3ff0_0000_0000_0000 ∷ 0 ∷ 0 ∷ 0x3ff0_0000_0000_0000 ∷ [])
     -- 2 x 1, the same readings: the column is cleared below its head, and does not stay as found
-    ∷ (0 ∷ 1 ∷ 0 ∷ 0 ∷ 0 ∷ 1 ∷ 0x39b4_484b_feeb_c2a0 ∷ 0 ∷ 0x3ff0_0000_0000_0000 ∷ 0 ∷ 0 ∷ 0x3ff0_0000_0000_0000
+    ∷ (0 ∷ 1 ∷ 0 ∷ 0 ∷ 0 ∷ 1 ∷ 0 ∷ 0x39b4_484b_feeb_c2a0 ∷ 0 ∷ 0x3ff0_0000_0000_0000 ∷ 0 ∷ 0 ∷ 0x3ff0_0000_0000_0000
     ∷ 0x3ff0_0000_0000_0000 ∷ [])
     -- 1 x 2, both readings at the floor: at it is not below it, so the row is reflected
-    ∷ (0 ∷ 1 ∷ 0 ∷ 0 ∷ 0 ∷ 1 ∷ 0x8016_a09e_667f_3bcd ∷ 0 ∷ 0x3ff0_0000_0000_0000 ∷ 0xbfe6_a09e_667f_3bca
+    ∷ (0 ∷ 1 ∷ 0 ∷ 0 ∷ 0 ∷ 1 ∷ 0 ∷ 0x8016_a09e_667f_3bcd ∷ 0 ∷ 0x3ff0_0000_0000_0000 ∷ 0xbfe6_a09e_667f_3bca
     ∷ 0xbfe6_a09e_667f_3bcc ∷ 0xbfe6_a09e_667f_3bcc ∷ 0x3fe6_a09e_667f_3bcc ∷ [])
     -- 2 x 2 with a negligible coupling: 1 drop, and the coupling stays as it is, not set to zero
-    ∷ (0 ∷ 1 ∷ 1 ∷ 0 ∷ 1 ∷ 1 ∷ 0xbff0_0000_0000_0000 ∷ 0x3d3c_25c2_6849_7682 ∷ 0 ∷ 0xbff0_0000_0000_0000
+    ∷ (0 ∷ 1 ∷ 1 ∷ 0 ∷ 1 ∷ 1 ∷ 0 ∷ 0xbff0_0000_0000_0000 ∷ 0x3d3c_25c2_6849_7682 ∷ 0 ∷ 0xbff0_0000_0000_0000
     ∷ 0xbff0_0000_0000_0000 ∷ 0 ∷ 0 ∷ 0x3ff0_0000_0000_0000 ∷ 0x3ff0_0000_0000_0000 ∷ 0 ∷ 0 ∷ 0xbff0_0000_0000_0000 ∷
     [])
     -- 3 x 3, credit 1, limit 2: the drop pays its pass back, so there are 3 passes and not 2
-    ∷ (0 ∷ 3 ∷ 3 ∷ 2 ∷ 1 ∷ 2 ∷ 0 ∷ 0 ∷ 0 ∷ 0 ∷ 0 ∷ 0 ∷ 0 ∷ 0 ∷ 0x3ff0_0000_0000_0000 ∷ 0xbff0_0000_0000_0000
+    ∷ (0 ∷ 3 ∷ 3 ∷ 2 ∷ 1 ∷ 2 ∷ 4 ∷ 0 ∷ 0 ∷ 0 ∷ 0 ∷ 0 ∷ 0 ∷ 0 ∷ 0 ∷ 0x3ff0_0000_0000_0000 ∷ 0xbff0_0000_0000_0000
     ∷ 0x8000_0000_0000_0000 ∷ 0 ∷ 0 ∷ 0xbff0_0000_0000_0000 ∷ 0 ∷ 0 ∷ 0 ∷ 0x3ff0_0000_0000_0000 ∷ 0xbff0_0000_0000_0000
     ∷ 0x8000_0000_0000_0000 ∷ 0 ∷ 0 ∷ 0xbff0_0000_0000_0000 ∷ 0 ∷ 0 ∷ 0 ∷ 0x3ff0_0000_0000_0000 ∷ [])
     -- 3 x 3, credit 1, limit 2: a sweep, a drop that lowers the counter from 2 to 1 and not to 0, and a sweep, so there
     -- are 3 passes and not 4
-    ∷ (0 ∷ 3 ∷ 3 ∷ 2 ∷ 1 ∷ 2 ∷ 0 ∷ 0 ∷ 0x8000_0000_0000_0000 ∷ 0 ∷ 0x3ff0_0000_0000_0000 ∷ 0 ∷ 0 ∷ 0
+    ∷ (0 ∷ 3 ∷ 3 ∷ 2 ∷ 1 ∷ 2 ∷ 6 ∷ 0 ∷ 0 ∷ 0x8000_0000_0000_0000 ∷ 0 ∷ 0x3ff0_0000_0000_0000 ∷ 0 ∷ 0 ∷ 0
     ∷ 0xbff0_0000_0000_0000 ∷ 0 ∷ 0 ∷ 0xbff0_0000_0000_0000 ∷ 0 ∷ 0xbff0_0000_0000_0000 ∷ 0 ∷ 0x3ff0_0000_0000_0000
     ∷ 0 ∷ 0 ∷ 0 ∷ 0 ∷ 0x3ff0_0000_0000_0000 ∷ 0x3ff0_0000_0000_0000 ∷ 0 ∷ 0 ∷ 0 ∷ 0xbff0_0000_0000_0000
     ∷ 0x8000_0000_0000_0000 ∷ [])
     -- 2 x 2, rows (1, 2), (3, 4): 1 sweep and 1 drop; square, so the upper form, shifted by the eigenvalue nearest to
     -- the last entry
-    ∷ (0 ∷ 1 ∷ 2 ∷ 1 ∷ 1 ∷ 1 ∷ 0x3fd7_6bfd_750b_9d53 ∷ 0xbd06_8000_0000_0000 ∷ 0 ∷ 0xc015_dc25_3662_e9ca
+    ∷ (0 ∷ 1 ∷ 2 ∷ 1 ∷ 1 ∷ 1 ∷ 2 ∷ 0x3fd7_6bfd_750b_9d53 ∷ 0xbd06_8000_0000_0000 ∷ 0 ∷ 0xc015_dc25_3662_e9ca
     ∷ 0xbfed_43b3_7bf5_1262 ∷ 0x3fd9_e434_b815_cba1 ∷ 0x3fd9_e434_b815_cba3 ∷ 0x3fed_43b3_7bf5_1262
     ∷ 0x3fea_2844_ad6e_c66a ∷ 0xbfe2_6efd_219a_583e ∷ 0xbfe2_6efd_219a_583e ∷ 0xbfea_2844_ad6e_c66a ∷ [])
     -- 3 x 3, limit 1: one sweep of the upper form, columns first and then rows, with a step between
-    ∷ (0 ∷ 2 ∷ 1 ∷ 1 ∷ 0 ∷ 3 ∷ 0x4031_698f_8396_80ee ∷ 0xbfb3_0786_8e46_16f6 ∷ 0 ∷ 0 ∷ 0x3fec_0160_40da_dcfc
+    ∷ (0 ∷ 2 ∷ 1 ∷ 1 ∷ 0 ∷ 3 ∷ 4 ∷ 0x4031_698f_8396_80ee ∷ 0xbfb3_0786_8e46_16f6 ∷ 0 ∷ 0 ∷ 0x3fec_0160_40da_dcfc
     ∷ 0x3f58_c9c0_3362_0930 ∷ 0 ∷ 0xbc70_0000_0000_0000 ∷ 0xbfc9_32ee_ac5b_2e98 ∷ 0xbfca_c4c4_948a_ca68
     ∷ 0x3fee_dd27_50a0_0356 ∷ 0x3fc4_a4dc_4f73_c080 ∷ 0xbfe0_1f77_1ce9_1a98 ∷ 0x3fa1_f585_89a1_c750
     ∷ 0xbfeb_9e62_40e1_265e ∷ 0xbfea_d1b3_c79c_c4fb ∷ 0xbfd0_c09f_26d9_98f8 ∷ 0x3fde_a1aa_3c3d_df5c
@@ -215,7 +216,7 @@ original =
     ∷ 0x3f85_3411_6a0a_d6e0 ∷ 0x3fea_a500_2dde_5fee ∷ 0xbfe6_08f7_ae78_5eb2 ∷ 0x3fe1_cf55_d481_1110
     ∷ 0xbfdd_bffc_77be_544f ∷ [])
     -- 2 x 3, limit 1: one sweep of the lower form, rows first and then columns
-    ∷ (0 ∷ 2 ∷ 1 ∷ 1 ∷ 0 ∷ 2 ∷ 0x4023_041c_c538_9e82 ∷ 0x3cb0_0000_0000_0000 ∷ 0 ∷ 0xbcc7_0000_0000_0000
+    ∷ (0 ∷ 2 ∷ 1 ∷ 1 ∷ 0 ∷ 2 ∷ 2 ∷ 0x4023_041c_c538_9e82 ∷ 0x3cb0_0000_0000_0000 ∷ 0 ∷ 0xbcc7_0000_0000_0000
     ∷ 0x3fe8_bb59_1a29_3feb ∷ 0 ∷ 0xbfd8_b96d_e330_a854 ∷ 0xbfed_8405_3d8c_2d02 ∷ 0xbfed_8405_3d8c_2d02
     ∷ 0x3fd8_b96d_e330_a854 ∷ 0xbfdb_6f48_45dd_87cf ∷ 0x3fe9_ca74_d2a4_b73d ∷ 0x3fda_20bd_700c_2c46
     ∷ 0xbfe2_1f2f_affe_6d42 ∷ 0x3fbc_c518_0930_be05 ∷ 0xbfea_20bd_700c_2c3f ∷ 0xbfe6_86bb_3d0e_169c
@@ -227,6 +228,6 @@ unfolding ofBits toBits neg add sub mul div lt eq isNan magnitude signOf smaller
     repeated rotationOf pairTurned rowsTurned columnsTurned lineCopied lineCleared timesFrom largestOf scaled squaresOf
     reflectionOf rowTimes tailLess rowLess rowReflected reflectedRight rowAdded rowsAdded columnSums rowLessAll
     rowLessTimes lowerLess rowsLess reflectedLeft columnMatrix rowMatrix factorReflected columnZeroed rowZeroed
-    placesZeroed bidiagonal turned singular negligible steps swept quietCorner pass run counted looked badReadings firstOf accepted
+    placesZeroed bidiagonal turned singular negligible steps swept stepsMoves sweepMoves quietCorner pass run counted looked badReadings firstOf accepted
     outcome identity defaultTolerance defaultAbsolute defaultFloor
 slips = refl

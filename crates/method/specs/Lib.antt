@@ -12,6 +12,7 @@ pub mod Reflection
 pub mod Work
 pub mod Bidiagonal
 pub mod Chase
+pub mod Moves
 pub mod Quiet
 pub mod Walk
 pub mod Positions

@@ -12,6 +12,7 @@ use Rattle.method.specs.Floats.{pick}
 use Rattle.method.specs.Work.{Work, Shape, work, packed}
 use Rattle.method.specs.Bidiagonal.{bidiagonal}
 use Rattle.method.specs.Chase.{negligible, swept}
+use Rattle.method.specs.Moves.{sweepRotations}
 use Rattle.method.specs.Walk.{Rules, State, walked}
 use Rattle.method.specs.Settings.{Settings}
 use Rattle.method.specs.Checks.{refusalOf}
@@ -36,12 +37,13 @@ card rows cols = pick (leb cols rows) cols rows
 abbrev pub isUpper : ℕ → ℕ → Bool
 isUpper rows cols = leb cols rows
 
--- the walk's two questions, at a range of 2 or more, whose last 2 x 2 starts at range - 2
+-- the walk's questions, at a range of 2 or more, whose last 2 x 2 starts at range - 2
 abbrev pub rulesOf : Format → Shape → Bool → Float → Float → Rules Work
 rulesOf f z upper tolerance absolute =
     record {
       negligible = λ r w. negligible f tolerance absolute (z .stride) upper (r - 2) (w .matrix);
       sweep = λ r w. swept f z upper (r - 2) w;
+      rotations = λ r. sweepRotations upper (r - 2);
     }
 
 -- the same from sizes and settings

@@ -157,6 +157,7 @@ passes-kept {f} {floor} {z} {z′} {c} {R} upper tolerance absolute limit credit
     (record {
       tests = λ m d d′ wide below e. negligible-same q tolerance absolute upper (m - 2) d d′ (omega arith) e;
       sweeps = λ m d d′ wide below e. swept-kept q upper (m - 2) d d′ (omega arith) e;
+      turns = λ m wide below. refl;
     })
     n
     k

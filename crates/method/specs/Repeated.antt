@@ -3,6 +3,7 @@
 -- Assumes nothing.
 use mathlib.Core.Path.{_≡_, refl, sym, ap, _∙_}
 use mathlib.Core.Bool.{Bool, true, false}
+use mathlib.Core.List.{List, [], _∷_, _++_}
 use Prim.Native.Nat.{ℕ, zero, suc, _+_, _-_, _<_, _≤_, zero-le}
 use native.Mathlib.Nat.{zero-add}
 use native.Mathlib.Numerals.{add-one}
@@ -116,3 +117,16 @@ repeated-one look change k hi step within here else s = after (hi - 0) (omega ar
         choose false e more =
             let q : ¬ (n ≡ k) = eqb-false n k e in
             else (0 + n) (go 0 step n s) (λ p. q (sym (zero-add n) ∙ p)) ∙ more (omega arith)
+
+-- ---- a list of steps, carried out one after another
+
+unfoldable pub carriedOut : {S M : Type 0} → (M → S → S) → List M → S → S
+carriedOut step [] s = s
+carriedOut step (m ∷ ms) s = carriedOut step ms (step m s)
+
+pub carriedOut-append :
+    {S M : Type 0} (step : M → S → S) (ms ns : List M) (s : S) →
+    carriedOut step (ms ++ ns) s ≡ carriedOut step ns (carriedOut step ms s)
+unfolding carriedOut
+carriedOut-append step [] ns s = refl
+carriedOut-append step (m ∷ ms) ns s = carriedOut-append step ms ns (step m s)

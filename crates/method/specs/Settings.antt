@@ -32,3 +32,7 @@ mostCredit = 1000
 -- no allowed call makes more passes
 abbrev pub mostPasses : ℕ
 mostPasses = 146000
+
+-- nor computes more rotations: 2 x 47 for each of these passes
+abbrev pub mostRotations : ℕ
+mostRotations = 13724000

@@ -16,6 +16,7 @@ use Rattle.method.specs.Reflection.{rowsLess, reflectedLeft}
 use Rattle.method.specs.Bidiagonal.{columnMatrix, rowMatrix, factorReflected, columnZeroed, rowZeroed}
 use Rattle.method.specs.Bidiagonal.{placesZeroed, bidiagonal}
 use Rattle.method.specs.Chase.{turned, singular, negligible, steps, swept}
+use Rattle.method.specs.Moves.{stepsMoves, sweepMoves}
 use Rattle.method.specs.Quiet.{quietCorner}
 use Rattle.method.specs.Walk.{pass, run}
 use Rattle.method.specs.Checks.{counted, looked, badReadings, firstOf}
@@ -55,7 +56,7 @@ abbrev known : List (List ℕ)
 known =
     -- 2 x 2, (1, 0), (0, 2): the values exchange places, with their columns; U's column of -1 is negated
     (
-    (0 ∷ 1 ∷ 1 ∷ 0 ∷ 1 ∷ 1 ∷ [])
+    (0 ∷ 1 ∷ 1 ∷ 0 ∷ 1 ∷ 1 ∷ 0 ∷ [])
     ++ (0xbff0_0000_0000_0000 ∷ 0 ∷ 0 ∷ 0x4000_0000_0000_0000 ∷ [])
     ++ (0 ∷ 0x3ff0_0000_0000_0000 ∷ 0x3ff0_0000_0000_0000 ∷ 0x8000_0000_0000_0000 ∷ [])
     ++ (0 ∷ 0x3ff0_0000_0000_0000 ∷ 0x3ff0_0000_0000_0000 ∷ 0 ∷ [])
@@ -63,7 +64,7 @@ known =
     )
     -- 3 x 2, (1, 0), (0, 2), (0, 0): U's third column stays
     ∷ (
-    (0 ∷ 1 ∷ 1 ∷ 0 ∷ 1 ∷ 1 ∷ [])
+    (0 ∷ 1 ∷ 1 ∷ 0 ∷ 1 ∷ 1 ∷ 0 ∷ [])
     ++ (0xbff0_0000_0000_0000 ∷ 0 ∷ 0 ∷ 0xc000_0000_0000_0000 ∷ 0 ∷ 0 ∷ [])
     ++ (0x8000_0000_0000_0000 ∷ 0x3ff0_0000_0000_0000 ∷ 0 ∷ 0x3ff0_0000_0000_0000 ∷ 0x8000_0000_0000_0000 ∷ 0
     ∷ 0x8000_0000_0000_0000 ∷ 0x8000_0000_0000_0000 ∷ 0x3ff0_0000_0000_0000 ∷ [])
@@ -72,7 +73,7 @@ known =
     )
     -- 2 x 2, (1, 0), (0, 1): equal values keep their order, and each sign goes to U
     ∷ (
-    (0 ∷ 1 ∷ 1 ∷ 0 ∷ 1 ∷ 1 ∷ [])
+    (0 ∷ 1 ∷ 1 ∷ 0 ∷ 1 ∷ 1 ∷ 0 ∷ [])
     ++ (0xbff0_0000_0000_0000 ∷ 0 ∷ 0 ∷ 0x3ff0_0000_0000_0000 ∷ [])
     ++ (0x3ff0_0000_0000_0000 ∷ 0 ∷ 0x8000_0000_0000_0000 ∷ 0x3ff0_0000_0000_0000 ∷ [])
     ++ (0x3ff0_0000_0000_0000 ∷ 0 ∷ 0 ∷ 0x3ff0_0000_0000_0000 ∷ [])
@@ -80,7 +81,7 @@ known =
     )
     -- 1 x 1, (-3): 3, and U is negated
     ∷ (
-    (0 ∷ 1 ∷ 0 ∷ 0 ∷ 0 ∷ 1 ∷ [])
+    (0 ∷ 1 ∷ 0 ∷ 0 ∷ 0 ∷ 1 ∷ 0 ∷ [])
     ++ (0xc008_0000_0000_0000 ∷ [])
     ++ (0xbff0_0000_0000_0000 ∷ [])
     ++ (0x3ff0_0000_0000_0000 ∷ [])
@@ -88,7 +89,7 @@ known =
     )
     -- 1 x 1, (-0): 0, and U is negated
     ∷ (
-    (0 ∷ 1 ∷ 0 ∷ 0 ∷ 0 ∷ 1 ∷ [])
+    (0 ∷ 1 ∷ 0 ∷ 0 ∷ 0 ∷ 1 ∷ 0 ∷ [])
     ++ (0x8000_0000_0000_0000 ∷ [])
     ++ (0xbff0_0000_0000_0000 ∷ [])
     ++ (0x3ff0_0000_0000_0000 ∷ [])
@@ -96,7 +97,7 @@ known =
     )
     -- 2 x 2, zeros, limit 3: 12, with the run's word and counts; the list is as it was
     ∷ (
-    (12 ∷ 3 ∷ 3 ∷ 3 ∷ 0 ∷ 2 ∷ [])
+    (12 ∷ 3 ∷ 3 ∷ 3 ∷ 0 ∷ 2 ∷ 6 ∷ [])
     ++ (0 ∷ 0 ∷ 0 ∷ 0 ∷ [])
     ++ (0x8000_0000_0000_0000 ∷ 0x3ff0_0000_0000_0000 ∷ 0xbff0_0000_0000_0000 ∷ 0x8000_0000_0000_0000 ∷ [])
     ++ (0x8000_0000_0000_0000 ∷ 0x3ff0_0000_0000_0000 ∷ 0xbff0_0000_0000_0000 ∷ 0x8000_0000_0000_0000 ∷ [])
@@ -104,7 +105,7 @@ known =
     )
     -- 1 x 2, the largest finite double twice: 13
     ∷ (
-    (13 ∷ 1 ∷ 0 ∷ 0 ∷ 0 ∷ 1 ∷ [])
+    (13 ∷ 1 ∷ 0 ∷ 0 ∷ 0 ∷ 1 ∷ 0 ∷ [])
     ++ (0xfff0_0000_0000_0000 ∷ 0 ∷ [])
     ++ (0x3ff0_0000_0000_0000 ∷ [])
     ++ (0xbfe6_a09e_667f_3bce ∷ 0xbfe6_a09e_667f_3bcd ∷ 0xbfe6_a09e_667f_3bcd ∷ 0x3fe6_a09e_667f_3bcc ∷ [])
@@ -117,7 +118,7 @@ unfolding ofBits toBits neg add sub mul div lt eq isNan magnitude signOf smaller
     repeated rotationOf pairTurned rowsTurned columnsTurned lineCopied lineCleared timesFrom largestOf scaled squaresOf
     reflectionOf rowTimes tailLess rowLess rowReflected reflectedRight rowAdded rowsAdded columnSums rowLessAll
     rowLessTimes lowerLess rowsLess reflectedLeft columnMatrix rowMatrix factorReflected columnZeroed rowZeroed
-    placesZeroed bidiagonal turned singular negligible steps swept quietCorner pass run counted looked badReadings firstOf accepted
+    placesZeroed bidiagonal turned singular negligible steps swept stepsMoves sweepMoves quietCorner pass run counted looked badReadings firstOf accepted
     outcome identity defaultTolerance defaultAbsolute defaultFloor negative howMany newPlace order ahead valuesBy
     rowsMoved allFinite putInOrder orderedOutcome
 in-order-cases = refl

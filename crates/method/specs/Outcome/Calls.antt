@@ -5,8 +5,8 @@ use mathlib.Core.Path.{_≡_}
 use mathlib.Core.Logic.{_⊎_, inl, inr}
 use mathlib.Core.Bool.{Bool, true, false, false≢true}
 use mathlib.Core.List.{[]}
-use Prim.Native.Nat.{ℕ, _+_, _-_, _≤_, _<_}
-use native.Mathlib.Nat.{le-trans}
+use Prim.Native.Nat.{ℕ, _+_, _-_, _*_, _≤_, _<_}
+use native.Mathlib.Nat.{le-trans, mul-le-mul}
 use native.Mathlib.Omega.{arith}
 use lib.Ieee.{Format}
 use Rattle.method.specs.Work.{Work, work}
@@ -15,8 +15,8 @@ use Rattle.method.specs.Checks.{refusalOf}
 use Rattle.method.specs.Walk.Drops.{tallyDown}
 use Rattle.method.specs.Quiet.{BoundsAbove}
 use Rattle.method.specs.Report.{settled, quiet}
-use Rattle.method.specs.Outcome.{outcomeOf, outcome, plainOutcome, fullOutcome}
-use Rattle.method.specs.Settings.{Settings, mostLimit, mostCredit, mostPasses}
+use Rattle.method.specs.Outcome.{outcomeOf, card, accepted, outcome, plainOutcome, fullOutcome}
+use Rattle.method.specs.Settings.{Settings, mostSize, mostLimit, mostCredit, mostPasses, mostRotations}
 use Rattle.method.specs.Checks.Table.{clear, fit}
 use Rattle.method.specs.Outcome.Refused.{accepted-outcome}
 use Rattle.method.specs.Outcome.Reports.{accepted-true, accepted-settled, accepted-quiet, settledReport, atLimit}
@@ -114,3 +114,21 @@ passes-most f kept rows cols s w e =
     rw (accepted-outcome f kept rows cols s w e)
     (le-trans (accepted-true f kept rows cols s w (k .rows-some) (k .cols-some) .few)
     (enough-most (card-most rows cols (k .rows-few) (k .cols-few)) (k .limit-low) (k .credit-low)))
+
+-- and its rotations at most `mostRotations`
+pub rotations-few :
+    (f : Format) (kept : Bool) (rows cols : ℕ) (s : Settings) (w : Work) →
+    refusalOf kept rows cols s w .number ≡ 0 →
+    outcome f kept rows cols s w .report .tally .rotations ≤ mostRotations
+rotations-few f kept rows cols s w e =
+    let k = fit kept rows cols s w e in
+    let a = accepted-outcome f kept rows cols s w e in
+    let t = accepted-true f kept rows cols s w (k .rows-some) (k .cols-some) in
+    let passes = rw a at (passes-most f kept rows cols s w e) in
+    let c = card rows cols in
+    let few : c ≤ mostSize = card-most rows cols (k .rows-few) (k .cols-few) in
+    let sweeps = accepted f kept rows cols s w .report .tally .sweeps in
+    let all : 2 * (c - 1) * sweeps ≤ 2 * (mostSize - 1) * mostPasses =
+    mul-le-mul {n₁ = 2 * (c - 1)} {m₁ = sweeps} {n₂ = 2 * (mostSize - 1)} {m₂ = mostPasses} (omega arith)
+    (omega (arith, t .each, passes)) in
+    rw a (omega (arith, t .turns, all))

@@ -1,22 +1,28 @@
 -- The report is true: what every accepted run reports, its word included, that a settled answer is the same at every
 -- greater limit, when a quiet one settles there, and that at credit 0 each limit shows the state after as many passes.
 -- Assumes nothing.
-use mathlib.Core.Path.{_≡_, refl, ap}
+use mathlib.Core.Path.{_≡_, refl, ap, _∙_}
 use mathlib.Core.Logic.{_⊎_, inl, inr}
 use mathlib.Core.Bool.{Bool, true, false}
+use mathlib.Core.List.{List}
 use Prim.Native.Nat.{ℕ, _+_, _-_, _*_, _≤_, _<_}
-use native.Mathlib.Nat.{le-of-eq}
+use native.Mathlib.Nat.{le-of-eq, zero-add}
 use native.Mathlib.Omega.{arith}
 use lib.Dec.{leb}
+use lib.ListN.{length}
 use lib.Ieee.{Format}
 use borrow.Author.Tests.{leb-true, leb-false}
 use Rattle.method.specs.Floats.{pick}
-use Rattle.method.specs.Work.{Work, packed}
+use Rattle.method.specs.Work.{Work, Shape, packed}
 use Rattle.method.specs.Walk.{Tally, State, start, run}
 use Rattle.method.specs.Walk.Counts.{WholeWalk, whole-walk}
 use Rattle.method.specs.Walk.Limits as Limits
 use Rattle.method.specs.Walk.Applied.{applied, walked-applied}
 use Rattle.method.specs.Walk.Drops.{tallyDown, walked-down}
+use Rattle.method.specs.Walk.Turns.{few-rotations, ByMoves, walkMoves, walk-turned}
+use Rattle.method.specs.Repeated.{carriedOut}
+use Rattle.method.specs.Moves.{Move, carried, sweepMoves}
+use Rattle.method.specs.Moves.Laws.{swept-moves, rotations-most}
 use Rattle.method.specs.Quiet.{BoundsAbove}
 use Rattle.method.specs.Quiet.Drops.{quiet-drops}
 use Rattle.method.specs.Checks.{nowhere, notRefused}
@@ -35,6 +41,7 @@ pub record TrueReport (s : Settings) (c : ℕ) (r : Report) : Type 0 where
   pub range : (1 ≤ r .tally .range) × (r .tally .range ≤ c)
   pub few : r .tally .passes ≤ s .limit + s .credit * (c - 2)
   pub none : c ≡ 1 → r .tally .passes ≡ 0
+  pub turns : r .tally .rotations ≤ 2 * (c - 1) * r .tally .sweeps
 
 -- the smaller of rows and columns: 1 or more where both are, at most each, and at most the most of each
 pub card-some : (rows cols : ℕ) → 1 ≤ rows → 1 ≤ cols → 1 ≤ card rows cols
@@ -58,6 +65,24 @@ card-most rows cols h g = go (leb cols rows) refl
     go true e = rw e g
     go false e = rw e h
 
+-- ---- the sweeps' moves
+
+-- of a sweep over range r, whose last 2 x 2 starts at r - 2
+abbrev pub rangeMoves : Bool → ℕ → List Move
+rangeMoves upper r = sweepMoves upper (r - 2)
+
+-- a sweep of the method is these, carried out one after another, with a rotation for each
+pub by-moves :
+    (f : Format) (z : Shape) (rows cols : ℕ) (s : Settings) →
+    ByMoves (rulesFor f z rows cols s) (carried f z) (rangeMoves (isUpper rows cols))
+by-moves f z rows cols s =
+    record { sweeps = λ r w. swept-moves f z (isUpper rows cols) (r - 2) w; counts = λ r. refl }
+
+-- the moves of n passes of a run
+abbrev pub movesMade : Format → Shape → ℕ → ℕ → Settings → ℕ → State Work → List Move
+movesMade f z rows cols s n first =
+    walkMoves (rulesFor f z rows cols s) (carried f z) (rangeMoves (isUpper rows cols)) (s .credit) n first
+
 module _ (f : Format) (kept : Bool) (rows cols : ℕ) (s : Settings) (w : Work) where
   abbrev ends : State Work
   ends = walkedFrom f (packed kept rows cols) rows cols s w
@@ -67,6 +92,11 @@ module _ (f : Format) (kept : Bool) (rows cols : ℕ) (s : Settings) (w : Work) 
       let z = packed kept rows cols in
       whole-walk (rulesFor f z rows cols s) (s .limit) (s .credit) (card rows cols) (formOf f z rows cols s w)
       (card-some rows cols h g)
+
+  true-turns : ends .walk .tally .rotations ≤ 2 * (card rows cols - 1) * ends .walk .tally .sweeps
+  true-turns =
+      few-rotations (rulesFor f (packed kept rows cols) rows cols s) (s .limit) (s .credit) (card rows cols) _ _ _
+      (rotations-most (isUpper rows cols) (card rows cols))
 
   pub accepted-true : 1 ≤ rows → 1 ≤ cols → TrueReport s (card rows cols) (accepted f kept rows cols s w .report)
   unfolding accepted
@@ -80,6 +110,7 @@ module _ (f : Format) (kept : Bool) (rows cols : ℕ) (s : Settings) (w : Work) 
         range = k .range;
         few = k .few;
         none = λ e. k .none (omega (arith, e));
+        turns = true-turns;
       }
 
   -- and so is its word, of the range that it reports and the table that it leaves
@@ -114,6 +145,22 @@ module _ (f : Format) (kept : Bool) (rows cols : ℕ) (s : Settings) (w : Work) 
       let z = packed kept rows cols in
       let q = walked-applied (rulesFor f z rows cols s) (s .limit) (s .credit) (card rows cols) _ .counted in
       (ap (λ (e : State Work). e .walk .tally) q, ap (λ (e : State Work). e .held) q)
+
+  -- The rotations that it reports are those of a list of moves: of the sweeps' moves, pass by pass. Carried out one after
+  -- another on the bidiagonal form they give the lists, and the count is their number.
+  pub accepted-turned :
+      let z = packed kept rows cols in
+      let first = start (card rows cols) (formOf f z rows cols s w) in
+      let o = accepted f kept rows cols s w in
+      let ms = movesMade f z rows cols s (o .report .tally .passes) first in
+      (o .held ≡ carriedOut (carried f z) ms (first .held)) × (o .report .tally .rotations ≡ length ms)
+  accepted-turned =
+      let z = packed kept rows cols in
+      let first = start (card rows cols) (formOf f z rows cols s w) in
+      let o = accepted f kept rows cols s w in
+      let q = walk-turned (rulesFor f z rows cols s) (carried f z) (rangeMoves (isUpper rows cols))
+      (by-moves f z rows cols s) (s .credit) (o .report .tally .passes) first in
+      (accepted-applied .1 ∙ q .held, ap (λ (t : Tally). t .rotations) (accepted-applied .0) ∙ q .rotations ∙ zero-add _)
 
 -- ---- at a greater limit
 

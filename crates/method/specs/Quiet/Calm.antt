@@ -2,11 +2,13 @@
 -- each of its rotations has cosine +0 and sine 1, so that its sweeps leave zeros, and the test for a drop says no of
 -- zeros, at every finite tolerance and every absolute bound. So the limit is used up by sweeps, and the answer is quiet,
 -- with the whole range left. Assumes nothing.
-use mathlib.Core.Path.{_≡_, refl, _∙_}
+use mathlib.Core.Path.{_≡_, refl, ap, _∙_}
 use mathlib.Core.Logic.{inl, inr, ⊎-elim}
 use mathlib.Core.Bool.{Bool, true, false, not}
 use mathlib.Core.List.{List}
 use Prim.Native.Nat.{ℕ, _+_, _-_, _*_, _<_, _≤_}
+use native.Mathlib.Nat.{mul-suc}
+use native.Mathlib.Numerals.{add-one}
 use native.Mathlib.Omega.{arith}
 use lib.Dec.{eqb}
 use lib.ListN.{length, getD}
@@ -23,7 +25,8 @@ use Rattle.method.specs.Bidiagonal.{columnZeroed, rowZeroed, firstZeroed
 use Rattle.method.specs.Bidiagonal.{column-still, row-still}
 use Rattle.method.specs.Chase.{along, coupling, turned, pushed, stepped, steps, swept, negligible}
 use Rattle.method.specs.Chase.{shiftAt, firstRotation}
-use Rattle.method.specs.Walk.{Rules, State, start, pass, enough, walked}
+use Rattle.method.specs.Moves.Laws.{rotations-are}
+use Rattle.method.specs.Walk.{Tally, Rules, State, start, pass, enough, walked}
 use Rattle.method.specs.Walk.Run.{Going, pass-sweep, run-keeps, ended}
 use Rattle.method.specs.Walk.Counts.{walked-done}
 use Rattle.method.specs.Walk.Drops.{same-tally}
@@ -45,10 +48,15 @@ use Rattle.method.specs.Lengths.{walkedFrom-lengths}
 abbrev pub AllZero : List Float → Type 0
 AllZero a = (i : ℕ) → i < length a → isZero (getD a i nan) ≡ true
 
--- what is answered: the limit was used up by sweeps, the whole range of c is left, and the table is zeros still
+-- what is counted: the limit was used up by sweeps over the whole range of c, each with all its rotations
+abbrev pub tallyCalm : ℕ → ℕ → Tally
+tallyCalm limit c =
+    record { range = c; passes = limit; sweeps = limit; drops = 0; rotations = 2 * (c - 1) * limit }
+
+-- what is answered: quiet with these counts, and the table is zeros still
 pub record Calm (limit c : ℕ) (o : Outcome) : Type 0 where
   pub word : o .report .word ≡ quiet
-  pub tally : o .report .tally ≡ record { range = c; passes = limit; sweeps = limit; drops = 0 }
+  pub tally : o .report .tally ≡ tallyCalm limit c
   pub matrix : AllZero (o .held .matrix)
 
 -- ---- the table
@@ -215,6 +223,7 @@ record Still (limit c n : ℕ) (s : State Work) : Type 0 where
   passes : s .walk .tally .passes ≡ s .walk .counter
   sweeps : s .walk .tally .sweeps ≡ s .walk .counter
   drops : s .walk .tally .drops ≡ 0
+  rotations : s .walk .tally .rotations ≡ 2 * (c - 1) * s .walk .counter
   within : s .walk .counter ≤ limit
   zeros : Zeros n (s .held .matrix)
 
@@ -234,6 +243,14 @@ module _ (f : Format) (z : Shape) (c n : ℕ) (r : Room z c n) (upper : Bool) (t
         passes = omega arith;
         sweeps = omega arith;
         drops = k .drops;
+        rotations =
+            omega (
+              arith,
+              k .rotations,
+              rotations-are upper (s .walk .tally .range) (g .wide),
+              k .range,
+              rw (← add-one (s .walk .counter)) at (mul-suc (2 * (c - 1)) (s .walk .counter)),
+            );
         within = omega (arith, g .below);
         zeros = swept-zeros f z c n r upper l (s .held) (omega arith) (k .zeros);
       }
@@ -241,17 +258,18 @@ module _ (f : Format) (z : Shape) (c n : ℕ) (r : Room z c n) (upper : Bool) (t
   still-walk : (w : Work) → Zeros n (w .matrix) → Still limit c n (walked rules limit credit c w)
   still-walk w q =
       run-keeps rules credit limit (Still limit c n) still-pass (enough limit credit c) (start c w)
-      record { range = refl; passes = refl; sweeps = refl; drops = refl; within = omega arith; zeros = q }
+      record { range = refl; passes = refl; sweeps = refl; drops = refl; rotations = omega arith; within = omega arith; zeros = q }
 
 -- at its end the counter is at the limit
 still-end :
     (rules : Rules Work) (limit credit c n : ℕ) (w : Work) → 1 < c → Still limit c n (walked rules limit credit c w) →
-    walked rules limit credit c w .walk .tally ≡ record { range = c; passes = limit; sweeps = limit; drops = 0 }
+    walked rules limit credit c w .walk .tally ≡ tallyCalm limit c
 still-end rules limit credit c n w more k =
     let e = walked rules limit credit c w .walk in
     let full : e .counter ≡ limit =
     ⊎-elim (λ l. absurd (omega arith)) (λ l. omega arith) (ended limit e (walked-done rules limit credit c w)) in
     same-tally (k .range) (k .passes ∙ full) (k .sweeps ∙ full) (k .drops)
+    (k .rotations ∙ ap (λ (n : ℕ). 2 * (c - 1) * n) full)
 
 -- ---- the theorem
 

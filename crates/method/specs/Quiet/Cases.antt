@@ -16,6 +16,7 @@ use Rattle.method.specs.Reflection.{rowsLess, reflectedLeft}
 use Rattle.method.specs.Bidiagonal.{columnMatrix, rowMatrix, factorReflected, columnZeroed, rowZeroed}
 use Rattle.method.specs.Bidiagonal.{placesZeroed, bidiagonal}
 use Rattle.method.specs.Chase.{turned, singular, negligible, steps, swept}
+use Rattle.method.specs.Moves.{stepsMoves, sweepMoves}
 use Rattle.method.specs.Quiet.{quietCorner}
 use Rattle.method.specs.Walk.{pass, run}
 use Rattle.method.specs.Checks.{counted, looked, badReadings, firstOf}
@@ -107,19 +108,19 @@ runs =
 abbrev original : List (List ℕ)
 original =
     -- (2, 0), (0, 1): at limit 0 quiet, without a pass; at limit 1 a drop, and settled
-    (0 ∷ 3 ∷ 0 ∷ 0 ∷ 0 ∷ 2 ∷ 0xc000_0000_0000_0000 ∷ 0 ∷ 0 ∷ I ∷ [])
-    ∷ (0 ∷ 1 ∷ 1 ∷ 0 ∷ 1 ∷ 1 ∷ 0xc000_0000_0000_0000 ∷ 0 ∷ 0 ∷ I ∷ [])
+    (0 ∷ 3 ∷ 0 ∷ 0 ∷ 0 ∷ 2 ∷ 0 ∷ 0xc000_0000_0000_0000 ∷ 0 ∷ 0 ∷ I ∷ [])
+    ∷ (0 ∷ 1 ∷ 1 ∷ 0 ∷ 1 ∷ 1 ∷ 0 ∷ 0xc000_0000_0000_0000 ∷ 0 ∷ 0 ∷ I ∷ [])
     -- zeros, at limit 0
-    ∷ (0 ∷ 3 ∷ 0 ∷ 0 ∷ 0 ∷ 2 ∷ 0 ∷ 0 ∷ 0 ∷ 0 ∷ [])
+    ∷ (0 ∷ 3 ∷ 0 ∷ 0 ∷ 0 ∷ 2 ∷ 0 ∷ 0 ∷ 0 ∷ 0 ∷ 0 ∷ [])
     -- 2 x 3 zeros, in the lower form
-    ∷ (0 ∷ 3 ∷ 2 ∷ 2 ∷ 0 ∷ 2 ∷ 0 ∷ 0 ∷ 0 ∷ 0 ∷ 0 ∷ 0 ∷ [])
+    ∷ (0 ∷ 3 ∷ 2 ∷ 2 ∷ 0 ∷ 2 ∷ 4 ∷ 0 ∷ 0 ∷ 0 ∷ 0 ∷ 0 ∷ 0 ∷ [])
     -- a coupling of -0, and one of the smallest number below zero
-    ∷ (0 ∷ 3 ∷ 0 ∷ 0 ∷ 0 ∷ 2 ∷ J ∷ O ∷ 0 ∷ I ∷ [])
-    ∷ (0 ∷ 2 ∷ 0 ∷ 0 ∷ 0 ∷ 2 ∷ J ∷ 0x8000_0000_0000_0001 ∷ 0 ∷ I ∷ [])
+    ∷ (0 ∷ 3 ∷ 0 ∷ 0 ∷ 0 ∷ 2 ∷ 0 ∷ J ∷ O ∷ 0 ∷ I ∷ [])
+    ∷ (0 ∷ 2 ∷ 0 ∷ 0 ∷ 0 ∷ 2 ∷ 0 ∷ J ∷ 0x8000_0000_0000_0001 ∷ 0 ∷ I ∷ [])
     -- in the lower form the coupling stands below the diagonal
-    ∷ (0 ∷ 2 ∷ 0 ∷ 0 ∷ 0 ∷ 2 ∷ J ∷ 0 ∷ 0 ∷ I ∷ I ∷ 0 ∷ [])
+    ∷ (0 ∷ 2 ∷ 0 ∷ 0 ∷ 0 ∷ 2 ∷ 0 ∷ J ∷ 0 ∷ 0 ∷ I ∷ I ∷ 0 ∷ [])
     -- a dropped coupling that stays lies behind the corner, and does not matter
-    ∷ (0 ∷ 3 ∷ 1 ∷ 0 ∷ 1 ∷ 2 ∷ J ∷ 0 ∷ 0 ∷ 0 ∷ J ∷ E ∷ 0 ∷ 0 ∷ J ∷ [])
+    ∷ (0 ∷ 3 ∷ 1 ∷ 0 ∷ 1 ∷ 2 ∷ 0 ∷ J ∷ 0 ∷ 0 ∷ 0 ∷ J ∷ E ∷ 0 ∷ 0 ∷ J ∷ [])
     ∷ []
 
 pub quiet-cases : runs ≡ original
@@ -127,6 +128,6 @@ unfolding ofBits toBits neg add sub mul div lt eq isNan magnitude signOf smaller
     rotationOf pairTurned rowsTurned columnsTurned lineCopied lineCleared timesFrom largestOf scaled squaresOf
     reflectionOf rowTimes tailLess rowLess rowReflected reflectedRight rowAdded rowsAdded columnSums rowLessAll
     rowLessTimes lowerLess rowsLess reflectedLeft columnMatrix rowMatrix factorReflected columnZeroed rowZeroed
-    placesZeroed bidiagonal turned singular negligible steps swept quietCorner pass run counted looked badReadings
+    placesZeroed bidiagonal turned singular negligible steps swept stepsMoves sweepMoves quietCorner pass run counted looked badReadings
     firstOf accepted outcome defaultTolerance defaultAbsolute
 quiet-cases = refl

@@ -13,10 +13,11 @@ pub record Alike {D D′ : Type 0} (R : D → D′ → Type 0) (s : State D) (s�
   pub walk : s .walk ≡ s′ .walk
   pub held : R (s .held) (s′ .held)
 
--- the two tests and the two sweeps go together, at each range that a walk from c can have
+-- the two tests and the two sweeps go together, with as many rotations, at each range that a walk from c can have
 pub record Follows {D D′ : Type 0} (rules : Rules D) (rules′ : Rules D′) (c : ℕ) (R : D → D′ → Type 0) : Type 0 where
   pub tests : (r : ℕ) (d : D) (d′ : D′) → 1 < r → r ≤ c → R d d′ → rules .negligible r d ≡ rules′ .negligible r d′
   pub sweeps : (r : ℕ) (d : D) (d′ : D′) → 1 < r → r ≤ c → R d d′ → R (rules .sweep r d) (rules′ .sweep r d′)
+  pub turns : (r : ℕ) → 1 < r → r ≤ c → rules .rotations r ≡ rules′ .rotations r
 
 module _ {D D′ : Type 0} (rules : Rules D) (rules′ : Rules D′) (limit credit c : ℕ) (R : D → D′ → Type 0)
     (f : Follows rules rules′ c R) where
@@ -28,7 +29,7 @@ module _ {D D′ : Type 0} (rules : Rules D) (rules′ : Rules D′) (limit cred
   run-alike zero w d d′ h r = record { walk = refl; held = r }
   run-alike (suc n) w d d′ h r =
       go (going limit w) refl (rules .negligible (w .tally .range) d) refl (run-alike n (afterDrop credit w) d d′)
-      (run-alike n (afterSweep w) (rules .sweep (w .tally .range) d) (rules′ .sweep (w .tally .range) d′))
+      (run-alike n (afterSweep (rules .rotations (w .tally .range)) w) (rules .sweep (w .tally .range) d) (rules′ .sweep (w .tally .range) d′))
     where
       s : State D
       s = record { walk = w; held = d }
@@ -44,8 +45,9 @@ module _ {D D′ : Type 0} (rules : Rules D) (rules′ : Rules D′) (limit cred
           (run rules′ limit credit n (record { walk = afterDrop credit w; held = d′ }))) →
           (w .tally .range ≤ c →
           R (rules .sweep (w .tally .range) d) (rules′ .sweep (w .tally .range) d′) →
-          Alike R (run rules limit credit n (record { walk = afterSweep w; held = rules .sweep (w .tally .range) d }))
-          (run rules′ limit credit n (record { walk = afterSweep w; held = rules′ .sweep (w .tally .range) d′ }))) →
+          let w′ = afterSweep (rules .rotations (w .tally .range)) w in
+          Alike R (run rules limit credit n (record { walk = w′; held = rules .sweep (w .tally .range) d }))
+          (run rules′ limit credit n (record { walk = w′; held = rules′ .sweep (w .tally .range) d′ }))) →
           Alike R (run rules limit credit (suc n) s) (run rules′ limit credit (suc n) s′)
       go false e t q dr sw =
           rw (run-end rules credit limit (suc n) s e, run-end rules′ credit limit (suc n) s′ e)
@@ -70,5 +72,6 @@ module _ {D D′ : Type 0} (rules : Rules D) (rules′ : Rules D′) (limit cred
             run-more rules′ credit limit n s′ e,
             pass-sweep rules credit s q,
             pass-sweep rules′ credit s′ q′,
+            ← f .turns (w .tally .range) (g .wide) h,
           )
           (sw h (f .sweeps (w .tally .range) d d′ (g .wide) h r))

@@ -29,8 +29,8 @@ module _ (limit credit : ℕ) (w : Walk) (g : Going limit w) where
   ahead-drop : 1 < afterDrop credit w .tally .range → ahead limit credit (afterDrop credit w) < ahead limit credit w
   ahead-drop h = omega (arith, g .below, paid credit (w .tally .range) (omega arith))
 
-  ahead-sweep : ahead limit credit (afterSweep w) < ahead limit credit w
-  ahead-sweep = omega (arith, g .below)
+  ahead-sweep : (turns : ℕ) → ahead limit credit (afterSweep turns w) < ahead limit credit w
+  ahead-sweep turns = omega (arith, g .below)
 
 module _ {D : Type 0} (rules : Rules D) (limit credit : ℕ) where
   -- with as much fuel as is ahead, a run comes to its end
@@ -59,7 +59,7 @@ module _ {D : Type 0} (rules : Rules D) (limit credit : ℕ) where
           (ih
           (pass-keeps rules credit (λ s′. 1 < s′ .walk .tally .range → ahead limit credit (s′ .walk) ≤ n) s
           (λ k. omega (arith, h (g .wide), ahead-drop limit credit (s .walk) g k))
-          (λ k. omega (arith, h (g .wide), ahead-sweep limit credit (s .walk) g))))
+          (λ k. omega (arith, h (g .wide), ahead-sweep limit credit (s .walk) g (rules .rotations (s .walk .tally .range))))))
 
 -- ---- what holds of every record that a walk from c reaches
 
@@ -94,14 +94,15 @@ module _ {D : Type 0} (rules : Rules D) (limit credit c : ℕ) where
         none = λ h. absurd (let z : ⊥ = omega arith in z);
       }
 
-  reached-sweep : (w : Walk) → Going limit w → Reached limit credit c w → Reached limit credit c (afterSweep w)
-  reached-sweep w g k =
+  reached-sweep :
+      (turns : ℕ) (w : Walk) → Going limit w → Reached limit credit c w → Reached limit credit c (afterSweep turns w)
+  reached-sweep turns w g k =
       record {
         each = omega arith;
         whole = omega arith;
         kept = k .kept;
         few = omega (arith, k .left (g .wide), ahead-some limit credit w g);
-        left = λ h. omega (arith, k .left (g .wide), ahead-sweep limit credit w g);
+        left = λ h. omega (arith, k .left (g .wide), ahead-sweep limit credit w g turns);
         none = λ h. absurd (let z : ⊥ = omega arith in z);
       }
 
@@ -110,7 +111,7 @@ module _ {D : Type 0} (rules : Rules D) (limit credit c : ℕ) where
       run-keeps rules credit limit (λ s. Reached limit credit c (s .walk))
       (λ s g k.
       pass-keeps rules credit (λ s′. Reached limit credit c (s′ .walk)) s (reached-drop (s .walk) g k)
-      (reached-sweep (s .walk) g k))
+      (reached-sweep _ (s .walk) g k))
       n
       (start c d)
       reached-start

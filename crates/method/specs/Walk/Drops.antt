@@ -20,6 +20,7 @@ tallyDown t =
       passes = t .passes + (t .range - 1);
       sweeps = t .sweeps;
       drops = t .drops + (t .range - 1);
+      rotations = t .rotations;
     }
 
 -- e is s after these drops
@@ -27,13 +28,13 @@ pub record Down {D : Type 0} (s e : State D) : Type 0 where
   pub counted : e .walk .tally ≡ tallyDown (s .walk .tally)
   pub held : e .held ≡ s .held
 
-abbrev tally : ℕ → ℕ → ℕ → ℕ → Tally
-tally r p s d = record { range = r; passes = p; sweeps = s; drops = d }
+abbrev tally : ℕ → ℕ → ℕ → ℕ → ℕ → Tally
+tally r p s d t = record { range = r; passes = p; sweeps = s; drops = d; rotations = t }
 
 pub same-tally :
-    {r r′ p p′ s s′ d d′ : ℕ} → r ≡ r′ → p ≡ p′ → s ≡ s′ → d ≡ d′ →
-    tally r p s d ≡ tally r′ p′ s′ d′
-same-tally range passes sweeps drops = cc
+    {r r′ p p′ s s′ d d′ t t′ : ℕ} → r ≡ r′ → p ≡ p′ → s ≡ s′ → d ≡ d′ → t ≡ t′ →
+    tally r p s d t ≡ tally r′ p′ s′ d′ t′
+same-tally range passes sweeps drops rotations = cc
 
 module _ {D : Type 0} (rules : Rules D) where
   -- every coupling from range 2 up to r is negligible
@@ -51,7 +52,7 @@ module _ {D : Type 0} (rules : Rules D) where
         Down s (run rules limit credit k s)
     unfolding run
     run-drops zero s e all below room =
-        record { counted = same-tally (omega arith) (omega arith) refl (omega arith); held = refl }
+        record { counted = same-tally (omega arith) (omega arith) refl (omega arith) refl; held = refl }
     run-drops (suc k) s e all below room =
         let g : Going limit (s .walk) = record { wide = omega arith; below = below (omega arith) } in
         let dropped = stands (afterDrop credit (s .walk)) (s .held) in
@@ -60,7 +61,7 @@ module _ {D : Type 0} (rules : Rules D) where
         (λ some. fewer credit room (below (omega arith)) some) (λ z. omega (arith, room z, z)) in
         rw (run-more rules credit limit k s (true-going limit (s .walk) g), q)
         (record {
-          counted = down .counted ∙ same-tally refl (omega arith) refl (omega arith);
+          counted = down .counted ∙ same-tally refl (omega arith) refl (omega arith) refl;
           held = down .held;
         })
       where

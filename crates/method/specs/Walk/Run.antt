@@ -68,7 +68,8 @@ module _ {D : Type 0} (rules : Rules D) (credit : ℕ) where
 
   pub pass-sweep :
       (s : State D) → rules .negligible (s .walk .tally .range) (s .held) ≡ false →
-      pass rules credit s ≡ stands (afterSweep (s .walk)) (rules .sweep (s .walk .tally .range) (s .held))
+      let r = s .walk .tally .range in
+      pass rules credit s ≡ stands (afterSweep (rules .rotations r) (s .walk)) (rules .sweep r (s .held))
   unfolding pass
   pass-sweep s e = rw (e, pass)
 
@@ -76,7 +77,7 @@ module _ {D : Type 0} (rules : Rules D) (credit : ℕ) where
   pub pass-keeps :
       (P : State D → Type 0) (s : State D) →
       P (stands (afterDrop credit (s .walk)) (s .held)) →
-      P (stands (afterSweep (s .walk)) (rules .sweep (s .walk .tally .range) (s .held))) →
+      (let r = s .walk .tally .range in P (stands (afterSweep (rules .rotations r) (s .walk)) (rules .sweep r (s .held)))) →
       P (pass rules credit s)
   pass-keeps P s d w = go (rules .negligible (s .walk .tally .range) (s .held)) refl
     where
