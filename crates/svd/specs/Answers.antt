@@ -43,7 +43,14 @@ word-one w w′ e = sym (from-word w) ∙ ap fromWord e ∙ from-word w′
 
 -- the tally by the method's
 abbrev fromTally : Walk.Tally → Tally
-fromTally t = record { range = t .range; passes = t .passes; sweeps = t .sweeps; drops = t .drops }
+fromTally t =
+    record {
+      range = t .range;
+      passes = t .passes;
+      sweeps = t .sweeps;
+      drops = t .drops;
+      rotations = t .rotations;
+    }
 
 -- the report by the method's report
 abbrev fromReport : Report.Report → Report

@@ -3,13 +3,15 @@
 -- First the statements, `Demand1` to `Demand3`, then that they hold of every answer, and the laws of two calls; last,
 -- that each row of U and V goes its own way. They lean on the definition: `outcome`, `accepted` (method's Outcome), the
 -- list `meanings` (method's Checks.Table), `FirstBad` (Checks.Readings), on `QuietCorner`, `BoundsAbove`, `AllZero`
--- (method's Quiet), and on `OwnRows`, `rowAlone`, `ZeroRow`, `exchanged` (method's Rows). Assumes nothing.
+-- (method's Quiet), on `carriedOut`, `movesMade` (method's Repeated, Outcome.Reports)
+-- and on `OwnRows`, `rowAlone`, `ZeroRow`, `exchanged` (method's Rows). Assumes nothing.
 use mathlib.Core.Path.{_≡_, sym, ap, _∙_}
 use mathlib.Core.Logic.{_↔_}
 use mathlib.Core.Bool.{Bool, true, false}
 use mathlib.Core.List.{List, []}
 use Prim.Native.Nat.{ℕ, _+_, _-_, _*_, _≤_, _<_}
 use native.Mathlib.Omega.{arith}
+use lib.ListN.{length}
 use lib.Ieee.{Float, binary64}
 use Rattle.float.specs.Root.{AnF64, RootIs, root-is}
 use Rattle.method.specs.Root.{squareRoot}
@@ -17,10 +19,13 @@ use Rattle.method.specs.Work.{Work, work, packed}
 use Rattle.method.specs.Walk.{Rules, State, start, going, run}
 use Rattle.method.specs.Walk.Applied.{applied}
 use Rattle.method.specs.Walk.Drops.{tallyDown}
+use Rattle.method.specs.Walk.Turns.{PassCounts}
+use Rattle.method.specs.Repeated.{carriedOut}
+use Rattle.method.specs.Moves.{carried}
 use Rattle.method.specs.Chase.{coupling}
 use Rattle.method.specs.Quiet.{QuietCorner, BoundsAbove}
-use Rattle.method.specs.Quiet.Calm.{AllZero, Calm, calm}
-use Rattle.method.specs.Settings.{mostLimit}
+use Rattle.method.specs.Quiet.Calm.{AllZero, tallyCalm, Calm, calm}
+use Rattle.method.specs.Settings.{mostLimit, mostRotations}
 use Rattle.method.specs.Checks.{nowhere, refusalOf}
 use Rattle.method.specs.Checks.First.{First}
 use Rattle.method.specs.Checks.Readings.{FirstBad}
@@ -29,7 +34,7 @@ use Rattle.method.specs.Report as Report
 use Rattle.method.specs.Report.{refused}
 use Rattle.method.specs.Outcome.{outcomeOf, shownBy, card, isUpper, rulesFor, formOf, accepted, outcome}
 use Rattle.method.specs.Outcome.{plainOutcome, fullOutcome}
-use Rattle.method.specs.Outcome.Reports.{accepted-exposed, atLimit, settledReport}
+use Rattle.method.specs.Outcome.Reports.{accepted-exposed, atLimit, settledReport, movesMade}
 use Rattle.method.specs.Outcome.Calls.{calls-agree, settled-stays}
 use Rattle.method.specs.Fill.{identity}
 use Rattle.method.specs.View.{rowOf}
@@ -43,7 +48,7 @@ use Rattle.svd.specs.Values.{tallyOf, reportOf, wordIn}
 use Rattle.svd.specs.Answers.{word-one, report-one}
 use Rattle.svd.specs.Told.{reportsOf, listsOf, told-number, told-place, told-alone, told-refused, told-accepted}
 use Rattle.svd.specs.Told.{told-true, told-made, told-due, told-done, told-spent, told-word, told-says}
-use Rattle.svd.specs.Told.{worded-fine, told-settles}
+use Rattle.svd.specs.Told.{worded-fine, told-settles, told-turns, told-moves, told-rotations}
 
 -- ---- what a call may answer
 
@@ -131,6 +136,21 @@ module _ (kept : Bool) (rows cols : ℕ) (s : Settings) (w₀ : Work) (r : Repor
     -- none when c is 1, otherwise at most the limit plus the credit times (c - 2)
     pub none : card rows cols ≡ 1 → r .tally .passes ≡ 0
     pub most : r .tally .passes ≤ s .limit + s .credit * (card rows cols - 2)
+    -- of its rotations: a drop computes none, a sweep two for each coupling of its range,
+    pub turns :
+        (k : ℕ) → k < r .tally .passes →
+        let t = after kept rows cols s w₀ k .walk .tally in
+        PassCounts (2 * (t .range - 1)) t (after kept rows cols s w₀ (k + 1) .walk .tally)
+    -- and those told are those computed, each counted once: the moves of its sweeps, carried out one after another on the
+    -- bidiagonal form, give the lists, and the count is their number
+    pub moves :
+        let z = packed kept rows cols in
+        let form = first kept rows cols s w₀ in
+        let ms = movesMade binary64 z rows cols (settingsOf s) (r .tally .passes) form in
+        (w ≡ carriedOut (carried binary64 z) ms (form .held)) × (r .tally .rotations ≡ length ms)
+    -- they are at most 2 x (c - 1) for each sweep, and 13,724,000 in all
+    pub turns-few : r .tally .rotations ≤ 2 * (card rows cols - 1) * r .tally .sweeps
+    pub turns-most : r .tally .rotations ≤ mostRotations
     -- `settled` says that the range left is 1; where it is more, the limit ran out: `quiet` says that then every coupling
     -- inside the live corner of that range is +0 or -0, `stopped` that one is not
     pub settled : (r .word ≡ Settled) ↔ (r .tally .range ≡ 1)
@@ -180,6 +200,10 @@ module _ {kept : Bool} {rows cols : ℕ} {s : Settings} {w₀ : Work} {r : Repor
         range = t .range;
         none = t .none;
         most = t .few;
+        turns = told-turns kept rows cols s w₀ r w (a .promise) e;
+        moves = told-moves kept rows cols s w₀ r w (a .promise) e;
+        turns-few = t .turns;
+        turns-most = told-rotations kept rows cols s w₀ r w (a .promise) e;
         settled = told-says kept rows cols s w₀ r w (a .promise) e Settled (word .settled);
         spent = told-spent kept rows cols s w₀ r w (a .promise) e;
         quiet = told-says kept rows cols s w₀ r w (a .promise) e Quiet (word .quiet);
@@ -267,7 +291,7 @@ pub calm-quiet :
     1 < card rows cols →
     AllZero (w₀ .matrix) →
     (r .word ≡ Quiet)
-    × (tallyOf (r .tally) ≡ record { range = card rows cols; passes = s .limit; sweeps = s .limit; drops = 0 })
+    × (tallyOf (r .tally) ≡ tallyCalm (s .limit) (card rows cols))
     × AllZero (w .matrix)
 calm-quiet {kept} {rows} {cols} {s} {w₀} {w} {r} a e more zeros =
     let k : Calm (s .limit) (card rows cols) (outcomeOf (reportOf r) w) =

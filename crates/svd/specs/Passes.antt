@@ -2,7 +2,7 @@
 use mathlib.Core.Path.{_≡_, refl, ap, _∙_}
 use mathlib.Core.Bool.{Bool, true, false}
 use Prim.Native.Nat.{ℕ, _+_, _-_, _*_, _≤_, _<_, zero-le}
-use native.Mathlib.Nat.{le-trans, mul-le-mul-right}
+use native.Mathlib.Nat.{le-trans, mul-le-mul-left, mul-le-mul-right}
 use native.Mathlib.Omega.{arith}
 use lib.Ieee.{binary64}
 use Rattle.method.specs.Work.{Work, Shape as Sizes, couplingPlace}
@@ -12,7 +12,10 @@ use Rattle.method.specs.Walk as Walk
 use Rattle.method.specs.Walk.{State, stands, begun, run, afterDrop, afterSweep}
 use Rattle.method.specs.Walk.Counts.{walked-same, enough-most}
 use Rattle.method.specs.Walk.Run.{Going, narrow, spent}
-use Rattle.method.specs.Walk.Loop.{Room, Made, made-none, made-drop, made-sweep, made-moved, made-room, made-all, made-end}
+use Rattle.method.specs.Moves.{sweepRotations}
+use Rattle.method.specs.Moves.Laws.{rotations-most}
+use Rattle.method.specs.Walk.Turns.{AtMost}
+use Rattle.method.specs.Walk.Loop.{Room, room-less, Made, made-none, made-drop, made-sweep, made-moved, made-room, made-all, made-end}
 use Rattle.method.specs.Positions.{Corner, Placed, cornerOf, cornerDropped, start-placed, dropped-placed}
 use Rattle.method.specs.Outcome.{rulesOf, card, isUpper, walkedFrom, rulesFor}
 use Rattle.method.specs.Settings.{Settings, mostSize, mostStride, mostLimit, mostCredit, mostPasses}
@@ -22,11 +25,11 @@ use Rattle.svd.specs.Values.{walkOf, cornerIn, Lending, lending-kept, In
 use Rattle.svd.specs.declared.primitives.Walk.{Walk}
 
 -- a record from which n passes may be asked: its range lies in the table, its corner is that of the range, and its counts
--- have room
+-- have room, with as many rotations a pass as a sweep over its range computes
 pub record Standing (z : Sizes) (upper : Bool) (n : ℕ) (w : Walk) : Type 0 where
   pub inside : Inside z (w .tally .range)
   pub placed : Placed upper (z .stride) (w .tally .range) (cornerIn (w .corner))
-  pub room : Room n (walkOf w)
+  pub room : Room n (2 * (w .tally .range - 1)) (walkOf w)
 
 -- ---- the places of a record of range 2 or more, by its interior
 
@@ -73,13 +76,21 @@ inv-start z upper n s first d q =
     record { same = record { matrix = refl; u = refl; v = refl }; within = zero-le; placed = q .placed; by = made-none _ _ _ _ }
 
 module _ {z : Sizes} {upper : Bool} {n : ℕ} {s : Settings} {first : Walk} {start now : Work} {w : Walk} {made : ℕ} (q : Standing z upper n first) (i : Inv z upper n s first start now w made) where
-  pub inv-room : made < n → Room 1 (walkOf w)
-  inv-room h = made-room (i .by) (q .room) h
+  -- no sweep of the run computes more rotations than one over the first range
+  most : AtMost (rulesOf binary64 z upper (s .tolerance) (s .absolute)) (first .tally .range) (2 * (first .tally .range - 1))
+  most = rotations-most upper (first .tally .range)
+
+  room : made < n → Room 1 (2 * (first .tally .range - 1)) (walkOf w)
+  room h = made-room (i .by) most (omega arith) (q .room) h
+
+  -- for a drop
+  pub drop-room : made < n → Room 1 0 (walkOf w)
+  drop-room h = room-less (omega arith) (room h)
 
   -- the range stays in the table
   inv-inside : Inside z (w .tally .range)
   inv-inside =
-      let m = made-moved (i .by) .range in
+      let m = made-moved (i .by) most (omega arith) .range in
       record { in-rows = le-trans m (q .inside .in-rows); in-cols = le-trans m (q .inside .in-cols) }
 
   module _ (left : made < n) (wide : 1 < w .tally .range) (below : w .counter < s .limit) where
@@ -108,19 +119,26 @@ module _ {z : Sizes} {upper : Bool} {n : ℕ} {s : Settings} {first : Walk} {sta
         }
 
     pub inv-sweep :
-        {w′ : Walk} {now′ : Work} →
-        walkOf w′ ≡ afterSweep (walkOf w) →
+        {w′ : Walk} {now′ : Work} {turns : ℕ} →
+        walkOf w′ ≡ afterSweep turns (walkOf w) →
         w′ .corner ≡ w .corner →
         now′ ≡ swept binary64 z upper (w .corner .inter) now →
+        turns ≡ sweepRotations upper (w .corner .inter) →
         negligible binary64 (s .tolerance) (s .absolute) (z .stride) upper (w .corner .inter) (now .matrix) ≡ false →
         Inv z upper n s first start now′ w′ (made + 1)
-    inv-sweep {w′} ec eo en t =
+    inv-sweep {w′} ec eo en et t =
         record {
           same = onward (i .same) (rw en (swept-lengths binary64 z upper (w .corner .inter) now));
           within = omega arith;
           placed = rw (eo, ranges w′ ec) (i .placed);
-          by = rw (ec, en) (rw k-is at (made-sweep (i .by) goes (rw k-is t)));
+          by = rw (ec, en, et) (rw k-is at (made-sweep (i .by) goes (rw k-is t)));
         }
+
+    -- for a sweep, which computes so many
+    pub sweep-room : {turns : ℕ} → turns ≡ sweepRotations upper (w .corner .inter) → Room 1 turns (walkOf w)
+    sweep-room e =
+        let within = made-moved (i .by) most (omega arith) .range in
+        room-less (rw (e, ← k-is) (most (w .tally .range) wide within)) (room left)
 
     -- what the test for a drop asks
     pub test-asks :
@@ -181,14 +199,22 @@ module _ {z : Sizes} {upper : Bool} {n : ℕ} {s : Settings} {first : Walk} {sta
 pub first-standing :
     (z : Sizes) (upper : Bool) (c : ℕ) (first : Walk) →
     Inside z c →
+    c ≤ mostSize →
     walkOf first ≡ begun c →
     cornerIn (first .corner) ≡ cornerOf upper (z .stride) c →
     Standing z upper mostPasses first
-first-standing z upper c first h ec eo =
+first-standing z upper c first h few ec eo =
+    let turns : mostPasses * (2 * (c - 1)) ≤ mostPasses * (2 * (mostSize - 1)) =
+    mul-le-mul-left {n = 2 * (mostSize - 1)} mostPasses (omega arith) in
     record {
       inside = rw (ranges first ec) h;
       placed = rw (eo, ranges first ec) (start-placed upper (z .stride) c);
-      room = rw ec (record { tally = record { passes = lit< tt; sweeps = lit< tt; drops = lit< tt }; counter = lit< tt });
+      room =
+          rw (ec, ranges first ec)
+          (record {
+            tally = record { passes = lit< tt; sweeps = lit< tt; drops = lit< tt; rotations = omega (arith, turns) };
+            counter = lit< tt;
+          });
     }
 
 -- the bidiagonal form and then `mostPasses` at most are the definition's whole run

@@ -3,14 +3,16 @@
 use mathlib.Core.Path.{_≡_, refl, sym, ap, subst, _∙_}
 use mathlib.Core.Logic.{_↔_, ⊎-elim}
 use mathlib.Core.Bool.{Bool, true, false}
-use Prim.Native.Nat.{ℕ, _+_, _-_, _≤_, _<_}
+use Prim.Native.Nat.{ℕ, _+_, _-_, _*_, _≤_, _<_}
 use native.Mathlib.Omega.{arith}
 use lib.Dec.{eqb}
+use lib.ListN.{length}
 use lib.Ieee.{binary64}
 use borrow.Author.Tests.{eqb-true, eqb-false}
 use Rattle.method.specs.Work.{Work, packed}
 use Rattle.method.specs.Walk.{Tally, State, start, going}
-use Rattle.method.specs.Walk.Run.{ended}
+use Rattle.method.specs.Walk.Run.{going-true, ended}
+use Rattle.method.specs.Walk.Turns.{PassCounts, applied-counts}
 use Rattle.method.specs.Walk.Applied.{applied, Applied, walked-applied}
 use Rattle.method.specs.Checks as Checks
 use Rattle.method.specs.Checks.{refusalOf}
@@ -21,8 +23,12 @@ use Rattle.method.specs.Outcome.{Outcome, outcomeOf, card, isUpper, rulesFor, f
 use Rattle.method.specs.Outcome.Refused.{refused-outcome, accepted-outcome, outcome-refusal, outcome-number}
 use Rattle.method.specs.Report.Words.{TrueWord}
 use Rattle.method.specs.Outcome.Reports.{TrueReport, accepted-true, accepted-word, settledReport, atLimit}
-use Rattle.method.specs.Outcome.Calls.{quiet-settles}
-use Rattle.method.specs.Settings.{mostLimit}
+use Rattle.method.specs.Outcome.Reports.{movesMade, accepted-turned}
+use Rattle.method.specs.Outcome.Calls.{quiet-settles, rotations-few}
+use Rattle.method.specs.Settings.{mostLimit, mostRotations}
+use Rattle.method.specs.Repeated.{carriedOut}
+use Rattle.method.specs.Moves.{carried}
+use Rattle.method.specs.Moves.Laws.{rotations-are}
 use Rattle.method.specs.Walk.Drops.{tallyDown}
 use Rattle.method.specs.Quiet.{BoundsAbove}
 use Rattle.checks.specs.declared.settings.Settings.{Settings}
@@ -63,20 +69,18 @@ module _ (kept : Bool) (rows cols : ℕ) (s : Settings) (w₀ : Work) (r : Repor
   abbrev found : Checks.Refusal
   found = refusalOf kept rows cols (settingsOf s) w₀
 
-  -- the walk's end, and the state after k passes
+  -- where the walk begins, its end, and the state after k passes
+  abbrev begins : State Work
+  begins = start (card rows cols) (formOf binary64 (packed kept rows cols) rows cols (settingsOf s) w₀)
+
   abbrev ends : State Work
   ends = walkedFrom binary64 (packed kept rows cols) rows cols (settingsOf s) w₀
 
   abbrev passed : ℕ → State Work
   passed k =
-      let z = packed kept rows cols in
-      applied (rulesFor binary64 z rows cols (settingsOf s)) (s .credit) k
-      (start (card rows cols) (formOf binary64 z rows cols (settingsOf s) w₀))
+      applied (rulesFor binary64 (packed kept rows cols) rows cols (settingsOf s)) (s .credit) k begins
 
-  made :
-      let z = packed kept rows cols in
-      let first = start (card rows cols) (formOf binary64 z rows cols (settingsOf s) w₀) in
-      Applied (rulesFor binary64 z rows cols (settingsOf s)) (s .limit) (s .credit) first ends
+  made : Applied (rulesFor binary64 (packed kept rows cols) rows cols (settingsOf s)) (s .limit) (s .credit) begins ends
   made =
       let z = packed kept rows cols in
       walked-applied (rulesFor binary64 z rows cols (settingsOf s)) (s .limit) (s .credit) (card rows cols) _
@@ -151,6 +155,39 @@ module _ (kept : Bool) (rows cols : ℕ) (s : Settings) (w₀ : Work) (r : Repor
       -- and then none
       pub told-done : going (s .limit) (passed (r .tally .passes) .walk) ≡ false
       told-done = rw (told-passes, ← made .counted) (made .ended)
+
+      -- a drop computes no rotation, a sweep two for each coupling of its range
+      pub told-turns :
+          (k : ℕ) → k < r .tally .passes →
+          let t = passed k .walk .tally in
+          PassCounts (2 * (t .range - 1)) t (passed (k + 1) .walk .tally)
+      told-turns k h =
+          let wide = going-true (s .limit) (passed k .walk) (told-due k h) .wide in
+          rw (rotations-are (isUpper rows cols) (passed k .walk .tally .range) wide) at
+          (applied-counts (rulesFor binary64 (packed kept rows cols) rows cols (settingsOf s)) (s .credit) k begins)
+
+      -- and those computed are told: the moves of its sweeps, carried out one after another, give the lists
+      pub told-moves :
+          let z = packed kept rows cols in
+          let first = begins in
+          let ms = movesMade binary64 z rows cols (settingsOf s) (r .tally .passes) first in
+          (w ≡ carriedOut (carried binary64 z) ms (first .held)) × (r .tally .rotations ≡ length ms)
+      told-moves =
+          let q = accepted-turned binary64 kept rows cols (settingsOf s) w₀ in
+          subst
+          (λ (o : Outcome).
+          let z = packed kept rows cols in
+          let first = begins in
+          let ms = movesMade binary64 z rows cols (settingsOf s) (o .report .tally .passes) first in
+          (o .held ≡ carriedOut (carried binary64 z) ms (first .held)) × (o .report .tally .rotations ≡ length ms))
+          (sym (told-accepted e))
+          q
+
+      -- so many at most
+      pub told-rotations : r .tally .rotations ≤ mostRotations
+      told-rotations =
+          rw (ap (λ (o : Outcome). o .report .tally .rotations) a)
+          (rotations-few binary64 kept rows cols (settingsOf s) w₀ (sym told-number ∙ e))
 
       -- where more than 1 is left, the limit ran out
       pub told-spent : 1 < r .tally .range → s .limit ≤ passed (r .tally .passes) .walk .counter

@@ -42,7 +42,14 @@ sizes z = record { rows = z .rows; cols = z .cols; stride = z .stride; urows = z
 
 -- what a walk counts
 abbrev pub tallyOf : Tally → Walk.Tally
-tallyOf t = record { range = t .range; passes = t .passes; sweeps = t .sweeps; drops = t .drops }
+tallyOf t =
+    record {
+      range = t .range;
+      passes = t .passes;
+      sweeps = t .sweeps;
+      drops = t .drops;
+      rotations = t .rotations;
+    }
 
 -- the walk's record
 abbrev pub walkOf : Walk → Walk.Walk

@@ -16,6 +16,7 @@ ghost use lib.Ieee.{binary64};
 ghost use Rattle.method.specs.Work.{work, couplingPlace};
 ghost use Rattle.method.specs.Walk.{stands, run};
 ghost use Rattle.method.specs.Chase.{along, turned, pushed, steps, negligible, firstRotation, swept};
+ghost use Rattle.method.specs.Moves.{sweepRotations};
 ghost use Rattle.method.specs.Outcome.{rulesOf};
 ghost use Rattle.method.specs.Settings.{mostStride};
 ghost use Rattle.svd.specs.Values.{rotation, sizes, walkOf, Lending, Inside, Block};
@@ -111,7 +112,8 @@ fn first_rotation(b: &[f64], stride: usize, upper: bool, k: usize, tl: usize, bl
     implicit_givens_rotation(first * first - shift, first * next)
 }
 
-// A sweep over the live corner whose last 2 x 2 starts at (interior, interior).
+// A sweep over the live corner whose last 2 x 2 starts at (interior, interior). The answer is how many
+// rotations it computed: the first, two for each step and the last.
 fn givens_iteration(
     b: &mut [f64],
     u: &mut [f64],
@@ -121,16 +123,18 @@ fn givens_iteration(
     interior: usize,
     tl: usize,
     bl: usize,
-)
+) -> usize
     requires { ⌜ Inside (sizes z) (interior + 2) × Lending (sizes z) (work (now b) (now u) (now v))
         × (tl ≡ interior * z .stride + interior) × (bl ≡ (interior + 1) * z .stride + interior) ⌝ }
-    ensures { λ _. ⌜ work (now (b .exit)) (now (u .exit)) (now (v .exit)) ≡
-        swept binary64 (sizes z) upper interior (work (now (b .entry)) (now (u .entry)) (now (v .entry))) ⌝ }
+    ensures { λ r. ⌜ (work (now (b .exit)) (now (u .exit)) (now (v .exit)) ≡
+        swept binary64 (sizes z) upper interior (work (now (b .entry)) (now (u .entry)) (now (v .entry))))
+        × (r ≡ sweepRotations upper interior) ⌝ }
 {
     let g = first_rotation(b, z.stride, upper, interior, tl, bl);
     turn(b, u, v, z, g, !upper, 0, 0, 2);
     chase(b, u, v, z, upper, interior);
     push(b, u, v, z, upper, interior, interior, 2);
+    2 * (interior + 1)
 }
 
 // Whether the coupling is negligible beside its diagonal neighbours.
@@ -186,7 +190,7 @@ pub(crate) fn decomp_givens(
         if drops {
             walk = walk.drop(z.stride, s.credit);
         } else {
-            givens_iteration(
+            let turns = givens_iteration(
                 b,
                 u,
                 v,
@@ -196,7 +200,7 @@ pub(crate) fn decomp_givens(
                 walk.corner.tl,
                 walk.corner.bl,
             );
-            walk = walk.sweep();
+            walk = walk.sweep(turns);
         }
     }
     walk

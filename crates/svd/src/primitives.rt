@@ -101,7 +101,7 @@ impl Walk {
 
     // The record after a pass that drops.
     pub(crate) fn drop(self, stride: usize, credit: usize) -> Walk
-        requires { ⌜ (1 < self .tally .range) × (stride ≤ mostStride) × Room 1 (walkOf self) ⌝ }
+        requires { ⌜ (1 < self .tally .range) × (stride ≤ mostStride) × Room 1 0 (walkOf self) ⌝ }
         ensures { λ r. ⌜ (walkOf r ≡ afterDrop credit (walkOf self))
             × (cornerIn (r .corner) ≡ cornerDropped stride (cornerIn (self .corner))) ⌝ }
     {
@@ -114,14 +114,15 @@ impl Walk {
         }
     }
 
-    // The record after a pass that sweeps: the corner stays where it is.
-    pub(crate) fn sweep(self) -> Walk
-        requires { ⌜ Room 1 (walkOf self) ⌝ }
-        ensures { λ r. ⌜ (walkOf r ≡ afterSweep (walkOf self)) × (r .corner ≡ self .corner) ⌝ }
+    // The record after a pass that sweeps, and computes so many rotations: the corner stays where it
+    // is.
+    pub(crate) fn sweep(self, turns: usize) -> Walk
+        requires { ⌜ Room 1 turns (walkOf self) ⌝ }
+        ensures { λ r. ⌜ (walkOf r ≡ afterSweep turns (walkOf self)) × (r .corner ≡ self .corner) ⌝ }
     {
         let tally = self.tally;
         let mut next = self;
-        next.tally = tally.swept();
+        next.tally = tally.swept(turns);
         next.counter = self.counter + 1;
         next
     }

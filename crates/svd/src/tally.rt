@@ -5,12 +5,14 @@ ghost use Rattle.method.specs.Walk.{tallyBegun, tallyDropped, tallySwept};
 ghost use Rattle.method.specs.Walk.Loop.{TallyRoom};
 ghost use Rattle.svd.specs.Values.{tallyOf};
 
-// The range of the live corner, and the passes made so far, each a sweep or a drop.
+// The range of the live corner, the passes made so far, each a sweep or a drop, and the rotations
+// that the sweeps computed.
 pub struct Tally {
     pub range: usize,
     pub passes: usize,
     pub sweeps: usize,
     pub drops: usize,
+    pub rotations: usize,
 }
 
 impl Tally {
@@ -23,12 +25,13 @@ impl Tally {
             passes: 0,
             sweeps: 0,
             drops: 0,
+            rotations: 0,
         }
     }
 
     // After a pass that drops.
     pub(crate) fn dropped(self) -> Tally
-        requires { ⌜ (1 ≤ self .range) × TallyRoom 1 (tallyOf self) ⌝ }
+        requires { ⌜ (1 ≤ self .range) × TallyRoom 1 0 (tallyOf self) ⌝ }
         ensures { λ r. ⌜ tallyOf r ≡ tallyDropped (tallyOf self) ⌝ }
     {
         Tally {
@@ -36,17 +39,19 @@ impl Tally {
             passes: self.passes + 1,
             sweeps: self.sweeps,
             drops: self.drops + 1,
+            rotations: self.rotations,
         }
     }
 
-    // After a pass that sweeps.
-    pub(crate) fn swept(self) -> Tally
-        requires { ⌜ TallyRoom 1 (tallyOf self) ⌝ }
-        ensures { λ r. ⌜ tallyOf r ≡ tallySwept (tallyOf self) ⌝ }
+    // After a pass that sweeps, and computes so many rotations.
+    pub(crate) fn swept(self, turns: usize) -> Tally
+        requires { ⌜ TallyRoom 1 turns (tallyOf self) ⌝ }
+        ensures { λ r. ⌜ tallyOf r ≡ tallySwept turns (tallyOf self) ⌝ }
     {
         let mut next = self;
         next.passes = self.passes + 1;
         next.sweeps = self.sweeps + 1;
+        next.rotations = self.rotations + turns;
         next
     }
 }

@@ -2,15 +2,15 @@
 -- couplings. Assumes nothing.
 use mathlib.Core.Path.{_≡_, refl, sym, ap, _∙_}
 use mathlib.Core.Bool.{Bool, true, false, not}
-use mathlib.Core.List.{List, [], _∷_, _++_}
+use mathlib.Core.List.{List, [], _∷_}
 use Prim.Native.Nat.{ℕ, zero, suc, _+_, _-_, _*_, _<_, _≤_}
 use native.Mathlib.Omega.{arith}
 use lib.ListN.{length, length-append}
 use lib.Ieee.{Float, Format}
 use Rattle.method.specs.Work.{Work, Shape}
-use Rattle.method.specs.Repeated.{repeated, repeated-none, repeated-suc, carriedOut, carriedOut-append}
-use Rattle.method.specs.Chase.{turned, pushed, steps, swept, firstRotation}
-use Rattle.method.specs.Moves.{Move, move, own, shifted, rotationBy, carried, stepMoves, stepsMoves, sweepMoves}
+use Rattle.method.specs.Repeated.{repeated-none, repeated-suc, carriedOut, carriedOut-append}
+use Rattle.method.specs.Chase.{pushed, steps, swept, firstRotation}
+use Rattle.method.specs.Moves.{move, own, shifted, rotationBy, carried, stepMoves, stepsMoves, sweepMoves}
 use Rattle.method.specs.Moves.{sweepRotations}
 
 -- ---- a sweep is its moves
@@ -48,12 +48,15 @@ stepsMoves-length upper zero = refl
 stepsMoves-length upper (suc n) =
     length-append (stepsMoves upper n) (stepMoves upper n) ∙ omega (arith, stepsMoves-length upper n)
 
+-- the first, two for each step, and the last
+pub sweep-rotations : (upper : Bool) (k : ℕ) → sweepRotations upper k ≡ 2 * (k + 1)
+unfolding sweepMoves
+sweep-rotations upper k =
+    omega (arith, length-append (stepsMoves upper k) (move upper k k 2 own ∷ []), stepsMoves-length upper k)
+
 -- over range r, whose last 2 x 2 starts at r - 2: two for each coupling
 pub rotations-are : (upper : Bool) (r : ℕ) → 1 < r → sweepRotations upper (r - 2) ≡ 2 * (r - 1)
-unfolding sweepMoves
-rotations-are upper r h =
-    let last = move upper (r - 2) (r - 2) 2 own ∷ [] in
-    omega (arith, length-append (stepsMoves upper (r - 2)) last, stepsMoves-length upper (r - 2))
+rotations-are upper r h = omega (arith, sweep-rotations upper (r - 2))
 
 -- so over no range of 2 to c are they more than that of c
 pub rotations-most : (upper : Bool) (c r : ℕ) → 1 < r → r ≤ c → sweepRotations upper (r - 2) ≤ 2 * (c - 1)

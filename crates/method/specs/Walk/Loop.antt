@@ -1,7 +1,7 @@
 -- What a loop with a budget is proved by: after k turns it has made k passes, or the walk was at its end before.
 -- Assumes nothing.
 use Prim.Native.Nat.{ℕ, zero, suc, _+_, _*_, _≤_, _<_, _^_}
-use native.Mathlib.Nat.{suc-mul, mul-le-mul-right}
+use native.Mathlib.Nat.{suc-mul, mul-le-mul-left, mul-le-mul-right}
 use native.Mathlib.Omega.{arith}
 use mathlib.Core.Path.{_≡_, refl, sym, ap, _∙_}
 use mathlib.Core.Bool.{Bool, true, false}
@@ -20,6 +20,20 @@ pub record TallyRoom (n m : ℕ) (t : Tally) : Type 0 where
 pub record Room (n m : ℕ) (w : Walk) : Type 0 where
   pub tally : TallyRoom n m (w .tally)
   pub counter : w .counter + n < 2 ^ 32
+
+-- with room for more there is room for less
+pub room-less : {n m m′ : ℕ} {w : Walk} → m′ ≤ m → Room n m w → Room n m′ w
+room-less {n} h q =
+    let less = mul-le-mul-left n h in
+    record {
+      tally = record {
+        passes = q .tally .passes;
+        sweeps = q .tally .sweeps;
+        drops = q .tally .drops;
+        rotations = omega (arith, less, q .tally .rotations);
+      };
+      counter = q .counter;
+    }
 
 -- ---- a loop with a budget, from any state: k passes were made, or the walk was at its end before
 

@@ -1,7 +1,7 @@
 -- The rotations that a walk counts are those that its sweeps computed: what each pass adds, how many there can be, and,
 -- where a sweep is a list of moves carried out one after another, that the whole walk is such a list and the count its
 -- length. Over any data and any moves. Assumes nothing.
-use Prim.Native.Nat.{ℕ, zero, suc, _+_, _-_, _*_, _≤_, _<_}
+use Prim.Native.Nat.{ℕ, zero, suc, _+_, _*_, _≤_, _<_}
 use native.Mathlib.Nat.{mul-suc}
 use native.Mathlib.Numerals.{add-one}
 use native.Mathlib.Omega.{arith}
@@ -12,7 +12,7 @@ use mathlib.Core.Bool.{Bool, true, false}
 use mathlib.Core.List.{List, [], _++_}
 use Rattle.method.specs.Repeated.{carriedOut, carriedOut-append}
 use Rattle.method.specs.Walk.{Tally, Rules, State, start, pass, run}
-use Rattle.method.specs.Walk.Run.{Going, pass-drop, pass-sweep, pass-keeps, run-keeps}
+use Rattle.method.specs.Walk.Run.{pass-drop, pass-sweep, pass-keeps, run-keeps}
 use Rattle.method.specs.Walk.Applied.{applied}
 
 -- ---- what a pass adds
@@ -32,6 +32,14 @@ module _ {D : Type 0} (rules : Rules D) where
       let t = s .walk .tally in
       pass-keeps rules credit (λ s′. PassCounts (rules .rotations (t .range)) t (s′ .walk .tally)) s
       (inl (refl, refl, refl)) (inr (refl, refl, refl))
+
+  -- so does one pass more
+  pub applied-counts :
+      (credit k : ℕ) (s : State D) →
+      let t = applied rules credit k s .walk .tally in
+      PassCounts (rules .rotations (t .range)) t (applied rules credit (k + 1) s .walk .tally)
+  unfolding applied
+  applied-counts credit k s = rw (add-one k) (pass-counts credit (applied rules credit k s))
 
   -- ---- how many there can be
 

@@ -17,7 +17,8 @@ decomp-givens-requires c κs =
     let at-smaller-size = at-bidiagonal .before .before .before .before in
     let at-start = c .before .before .before .before .before .before .before .before .before .before .before .before .before .before .before .before .before .before .before in
     let k = bidiagonal-kept binary64 (at-start .args .s .floor) (sizes (at-start .args .z)) _ _ _ _ (at-bidiagonal .bidiagonal .ensures) in
-    (lending-kept k (at-start .pre .3), first-standing (sizes (at-start .args .z)) _ _ _ (values-inside (sizes (at-start .args .z)) _ (at-smaller-size .smaller-size .ensures) (at-start .pre .0) .1) (c .before .before .before .new .ensures .0) (c .before .before .before .new .ensures .1))
+    let i = values-inside (sizes (at-start .args .z)) _ (at-smaller-size .smaller-size .ensures) (at-start .pre .0) .1 in
+    (lending-kept k (at-start .pre .3), first-standing (sizes (at-start .args .z)) _ _ _ i (omega (arith, i .in-rows, at-start .pre .3 .table .rows-few)) (c .before .before .before .new .ensures .0) (c .before .before .before .new .ensures .1))
 
 bidiagonal-requires : tie.Need-bidiagonal-requires
 bidiagonal-requires c κs =
