@@ -23,6 +23,7 @@ answerOf r =
       sweeps = r .tally .sweeps;
       drops = r .tally .drops;
       range = r .tally .range;
+      rotations = r .tally .rotations;
     }
 
 -- an answer, and every list that was lent, as the call leaves it
@@ -60,4 +61,4 @@ ofChoice c = chosen (c .limit) (c .credit) (c .tolerance) (c .absolute) (c .floo
 
 -- which layout of the structs that cross the border this is: it rises by one whenever one of them changes
 abbrev pub layout : ℕ
-layout = 2
+layout = 3

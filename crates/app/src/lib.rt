@@ -40,6 +40,7 @@ pub struct Answer {
     pub sweeps: u64,
     pub drops: u64,
     pub range: u64,
+    pub rotations: u64,
 }
 
 // Where a row lies in U or V: its first entry, and how many there are.
@@ -75,6 +76,7 @@ fn tell(report: Report) -> Answer
         sweeps: report.tally.sweeps as u64,
         drops: report.tally.drops as u64,
         range: report.tally.range as u64,
+        rotations: report.tally.rotations as u64,
     }
 }
 
@@ -227,5 +229,5 @@ pub extern "C" fn merotunki_defaults() -> Choice
 pub extern "C" fn merotunki_layout() -> u64
     ensures { λ r. ⌜ r ≡ layout ⌝ }
 {
-    2
+    3
 }

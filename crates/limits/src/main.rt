@@ -1,6 +1,6 @@
 // Runs both calls at the bounds of what they accept, and with two faults at a time for every pair of
-// neighbouring numbers. Prints for each the report (number, place, word, passes, sweeps, drops and
-// range) and the entries of each list that are not +0, by place and bit pattern, as the call leaves
+// neighbouring numbers. Prints for each the report (number, place, word, passes, sweeps, drops,
+// range and rotations) and the entries of each list that are not +0, by place and bit pattern, as the call leaves
 // them. Beside's program `limits` says what it has to print.
 use checks::settings::Settings;
 use svd::interface::full_svd_decomposition;
@@ -64,6 +64,7 @@ fn print(name: &[u8], r: Report) {
     print_number(b" ", r.tally.sweeps);
     print_number(b" ", r.tally.drops);
     print_number(b" ", r.tally.range);
+    print_number(b" ", r.tally.rotations);
     io::write_all(1, b"\n");
 }
 

@@ -73,3 +73,4 @@ pub record Small (r : Report) : Type 0 where
   pub sweeps : r .tally .sweeps < 1000000
   pub drops : r .tally .drops < 1000000
   pub range : r .tally .range < 1000000
+  pub rotations : r .tally .rotations < 1000000

@@ -26,10 +26,11 @@ twelve = 48 ∷ 48 ∷ 48 ∷ 48 ∷ 48 ∷ 48 ∷ 48 ∷ 48 ∷ 48 ∷ 48 ∷ 4
 abbrev unended : Bytes
 unended = (49 ∷ LF ∷ []) ++ (55 ∷ space ∷ 50 ∷ space ∷ 49 ∷ LF ∷ []) ++ (52 ∷ 48 ∷ 48 ∷ 56 ∷ []) ++ twelve ++ (LF ∷ 52 ∷ 48 ∷ 49 ∷ 48 ∷ []) ++ twelve
 
--- 7 settled 0 0 0 1, then C014000000000000 and 0000000000000000
+-- 7 settled 0 0 0 1 0, then C014000000000000 and 0000000000000000
 abbrev answer : Bytes
 answer =
-    (55 ∷ space ∷ 115 ∷ 101 ∷ 116 ∷ 116 ∷ 108 ∷ 101 ∷ 100 ∷ space ∷ 48 ∷ space ∷ 48 ∷ space ∷ 48 ∷ space ∷ 49 ∷ LF ∷ [])
+    (55 ∷ space ∷ 115 ∷ 101 ∷ 116 ∷ 116 ∷ 108 ∷ 101 ∷ 100 ∷ space ∷ 48 ∷ space ∷ 48 ∷ space ∷ 48 ∷ space ∷ 49
+    ∷ space ∷ 48 ∷ LF ∷ [])
     ++ (67 ∷ 48 ∷ 49 ∷ 52 ∷ []) ++ twelve ++ (LF ∷ 48 ∷ 48 ∷ 48 ∷ 48 ∷ []) ++ twelve ++ (LF ∷ [])
 
 -- 1, then 7 1 2, then 4008000000000000 7FF0000000000000

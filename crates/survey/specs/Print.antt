@@ -43,12 +43,13 @@ wordText quiet = 113 ∷ 117 ∷ 105 ∷ 101 ∷ 116 ∷ []
 
 -- ---- a survey
 
--- `id word passes sweeps drops range`
+-- `id word passes sweeps drops range rotations`
 unfoldable pub reportText : ℕ → Report → Bytes
 reportText id r =
     let t = r .tally in
     lineText
-    (shown id ∷ wordText (r .word) ∷ shown (t .passes) ∷ shown (t .sweeps) ∷ shown (t .drops) ∷ shown (t .range) ∷ [])
+    (shown id ∷ wordText (r .word) ∷ shown (t .passes) ∷ shown (t .sweeps) ∷ shown (t .drops) ∷ shown (t .range)
+    ∷ shown (t .rotations) ∷ [])
 
 -- `id refused number row column count`
 unfoldable pub refusedText : ℕ → Report → Bytes

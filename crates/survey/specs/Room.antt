@@ -61,7 +61,7 @@ module _ (e : Entry) (xs : List Float) (r : InRange e) (l : length xs ≡ e .row
   abbrev told : Outcome
   told = plainOutcome binary64 (e .rows) (e .cols) defaults xs
 
-  survey-most : length (surveyText (surveyOf e xs)) ≤ 39216
+  survey-most : length (surveyText (surveyOf e xs)) ≤ 39224
   unfolding surveyText reportText refusedText
   survey-most = go (eqb (told .report .refusal .number) 0) refl (small (e .rows) (e .cols) xs (table e xs r l)) (same-size (e .rows) (e .cols) xs (table e xs r l))
     where
@@ -70,10 +70,10 @@ module _ (e : Entry) (xs : List Float) (r : InRange e) (l : length xs ≡ e .row
 
       go :
           (b : Bool) → eqb (told .report .refusal .number) 0 ≡ b → Small (told .report) →
-          length (told .held .matrix) ≡ length xs → length (outcomeText (e .id) (e .rows) (e .cols) told) ≤ 39216
+          length (told .held .matrix) ≡ length xs → length (outcomeText (e .id) (e .rows) (e .cols) told) ≤ 39224
       go true x s m =
-          let w = line-most (shown (e .id) ∷ wordText (told .report .word) ∷ shown (told .report .tally .passes) ∷ shown (told .report .tally .sweeps) ∷ shown (told .report .tally .drops) ∷ shown (told .report .tally .range) ∷ [])
-          (shown-most (e .id) id-few, (word-most (told .report .word), (shown-most (told .report .tally .passes) (s .passes), (shown-most (told .report .tally .sweeps) (s .sweeps), (shown-most (told .report .tally .drops) (s .drops), (shown-most (told .report .tally .range) (s .range), tt)))))) in
+          let w = line-most (shown (e .id) ∷ wordText (told .report .word) ∷ shown (told .report .tally .passes) ∷ shown (told .report .tally .sweeps) ∷ shown (told .report .tally .drops) ∷ shown (told .report .tally .range) ∷ shown (told .report .tally .rotations) ∷ [])
+          (shown-most (e .id) id-few, (word-most (told .report .word), (shown-most (told .report .tally .passes) (s .passes), (shown-most (told .report .tally .sweeps) (s .sweeps), (shown-most (told .report .tally .drops) (s .drops), (shown-most (told .report .tally .range) (s .range), (shown-most (told .report .tally .rotations) (s .rotations), tt))))))) in
           let q = length-rows (e .rows) (e .cols) (told .held .matrix) (omega (arith, m, l)) in
           rw (outcome-accepted (e .id) (e .rows) (e .cols) told (eqb-true (told .report .refusal .number) 0 x))
           (omega (arith, length-append (reportText (e .id) (told .report)) (rowsText (e .rows) (e .cols) (told .held .matrix)), w, q, area e r .0))
@@ -131,7 +131,7 @@ contents-lines (suc k) es n t = go (line (entryLine es) n t) (one-line (entryLin
 -- ---- the whole
 
 bodies-most : (es : List Entry) (n : ℕ) (t : Bytes) → All es → n + 48 * length es < 1000000
-    → length (printed (bodies es n t)) ≤ 39216 * length es + 24
+    → length (printed (bodies es n t)) ≤ 39224 * length es + 24
 unfolding bodies printed surveysText lineOf
 bodies-most [] n [] a h = omega (arith, malformed-most 0 (omega arith))
 bodies-most [] n (b ∷ t) a h = omega (arith, malformed-most n (omega arith))
@@ -142,8 +142,8 @@ bodies-most (e ∷ es) n t a h = go (body (e .rows) (e .cols - 1) n t) refl (λ 
 
     go : (g : Got (List Float)) → body (e .rows) (e .cols - 1) n t ≡ g
         → ((m : ℕ) (s : Bytes) → m + 48 * length es < 1000000
-        → length (printed (bodies es m s)) ≤ 39216 * length es + 24)
-        → length (printed (bodies (e ∷ es) n t)) ≤ 39216 * suc (length es) + 24
+        → length (printed (bodies es m s)) ≤ 39224 * length es + 24)
+        → length (printed (bodies (e ∷ es) n t)) ≤ 39224 * suc (length es) + 24
     go (malformed m) x ih =
         let k : m ≤ n + e .rows = rw x at lines in
         rw (bodies, x) (omega (arith, malformed-most m (omega (arith, a .0 .rows-most))))

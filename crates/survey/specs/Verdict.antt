@@ -4,7 +4,7 @@ use mathlib.Core.Path.{_≡_, refl, sym, subst, _∙_}
 use mathlib.Core.Bool.{Bool, true, false, true≢false, false≢true}
 use mathlib.Core.Logic.{⊎-elim}
 use mathlib.Core.List.{List, []}
-use Prim.Native.Nat.{ℕ, _*_, _<_, _≤_}
+use Prim.Native.Nat.{ℕ, _-_, _*_, _<_, _≤_}
 use native.Mathlib.Omega.{arith}
 use native.Mathlib.Nat.{mul-le-mul}
 use borrow.Author.Tests.{eqb-true, eqb-false}
@@ -14,7 +14,7 @@ use lib.ListN.{length}
 use Rattle.method.specs.Work.{Work, work}
 use Rattle.method.specs.Checks.{Place, badReadings, Refusal, refusal, refusalOf}
 use Rattle.method.specs.Report.{Report, refused}
-use Rattle.method.specs.Outcome.{Outcome, outcomeOf, plainOutcome, accepted}
+use Rattle.method.specs.Outcome.{Outcome, outcomeOf, card, plainOutcome, accepted}
 use Rattle.method.specs.Defaults.{defaults, defaultTolerance, defaultAbsolute, defaultFloor}
 use Rattle.method.specs.Outcome.Reports.{accepted-true, card-most}
 use Rattle.method.specs.Checks.Readings.{AllGood, BadReading, bad-count, bad-most, good-or-bad}
@@ -72,6 +72,10 @@ module _ (rows cols : ℕ) (xs : List Float) (t : Table rows cols xs) where
       go true e =
           let a = accepted-true binary64 false rows cols defaults given (t .rows-least) (t .cols-least) in
           let k = card-most rows cols (t .rows-most) (t .cols-most) in
+          let c = card rows cols in
+          let sweeps = accepted binary64 false rows cols defaults given .report .tally .sweeps in
+          let rotations : 2 * (c - 1) * sweeps ≤ 94 * 2400 =
+          mul-le-mul {n₁ = 2 * (c - 1)} {m₁ = sweeps} {n₂ = 94} {m₂ = 2400} (omega (arith, k)) (omega (arith, a .few, a .each, k)) in
           subst (λ (o : Outcome). Small (o .report)) (sym (accepted-outcome binary64 false rows cols defaults given (eqb-true (why .number) 0 e))) record {
             number = omega (arith, a .number);
             row = rw (a .place) (omega arith);
@@ -81,6 +85,7 @@ module _ (rows cols : ℕ) (xs : List Float) (t : Table rows cols xs) where
             sweeps = omega (arith, a .few, a .each, k);
             drops = omega (arith, a .drops, k);
             range = omega (arith, a .range .1, k);
+            rotations = omega (arith, a .turns, rotations);
           }
       go false e =
           subst (λ (o : Outcome). Small (o .report)) (sym (refused-outcome binary64 false rows cols defaults given (eqb-false (why .number) 0 e))) record {
@@ -92,6 +97,7 @@ module _ (rows cols : ℕ) (xs : List Float) (t : Table rows cols xs) where
             sweeps = omega arith;
             drops = omega arith;
             range = omega arith;
+            rotations = omega arith;
           }
 
   -- the matrix is as long as it was

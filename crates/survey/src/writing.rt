@@ -66,7 +66,7 @@ fn put_rows(out: &mut [u8], at: usize, m: &[f64], r: usize, c: usize) -> usize
     q
 }
 
-// The line of an accepted survey.
+// The line of an accepted survey: `id word passes sweeps drops range rotations`.
 fn put_report(out: &mut [u8], at: usize, id: u64, report: Report) -> usize
     ensures { λ r. ⌜ Wrote (now (out .entry)) at (reportText id (reportOf report)) (now (out .exit)) r ⌝ }
 {
@@ -77,7 +77,8 @@ fn put_report(out: &mut [u8], at: usize, id: u64, report: Report) -> usize
     let d = put_field(out, c, report.tally.sweeps as u64);
     let e = put_field(out, d, report.tally.drops as u64);
     let f = put_field(out, e, report.tally.range as u64);
-    put(out, f, b"\n")
+    let g = put_field(out, f, report.tally.rotations as u64);
+    put(out, g, b"\n")
 }
 
 // The line of a survey that the call refuses: `id refused number row column count`.

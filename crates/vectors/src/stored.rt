@@ -35,8 +35,8 @@ pub(crate) struct Head {
     pub(crate) differ: u64,
 }
 
-// The words of a report as they are stored, which are nine: `words_of` lists them.
-pub(crate) type Answer = [u8; 72];
+// The words of a report as they are stored, which are ten: `words_of` lists them.
+pub(crate) type Answer = [u8; 80];
 
 // What was found where a head should be.
 pub(crate) enum Found {
@@ -54,9 +54,9 @@ fn head_room() -> [u8; 112]
 
 // Room for the words of an answer.
 pub(crate) fn answer_room() -> Answer
-    ensures { λ r. ⌜ 72 ≡ length r ⌝ }
+    ensures { λ r. ⌜ 80 ≡ length r ⌝ }
 {
-    [0; 72]
+    [0; 80]
 }
 
 // Room for the words of the longest list.
@@ -99,7 +99,7 @@ fn head_of(bytes: &[u8]) -> Head
 }
 
 // The words of a report, the number first: the one list of them.
-fn words_of(r: Report) -> [u64; 9] {
+fn words_of(r: Report) -> [u64; 10] {
     let word = r.word;
     [
         r.refusal.number as u64,
@@ -111,6 +111,7 @@ fn words_of(r: Report) -> [u64; 9] {
         r.tally.sweeps as u64,
         r.tally.drops as u64,
         r.tally.range as u64,
+        r.tally.rotations as u64,
     ]
 }
 
@@ -123,7 +124,7 @@ pub(crate) fn number_in(answer: &Answer) -> u64 {
 pub(crate) fn report_agrees(report: Report, answer: &Answer) -> bool {
     let words = words_of(report);
     let mut i = 0;
-    while i < 9 {
+    while i < 10 {
         if words[i] != word(answer, 8 * i) {
             return false;
         }
@@ -164,7 +165,7 @@ pub(crate) fn read_head() -> Found {
 
 // Reads the next answer; whether it is there.
 pub(crate) fn read_answer(answer: &mut Answer) -> bool {
-    io::read_full(0, answer) == 72
+    io::read_full(0, answer) == 80
 }
 
 // Fills the list from the next words, for which there is just the room; whether they are there.
