@@ -5,13 +5,13 @@ import pathlib
 from tables import Fault
 
 LIBRARY = pathlib.Path(__file__).resolve().parent.parent / "target/native/libmerotunki.so"
-LAYOUT = 2  # of the structs below; the library says which one it has
+LAYOUT = 3  # of the structs below; the library says which one it has
 WORDS = "none", "settled", "stopped", "quiet"  # an answer's word, by its number
 
 
 class Answer(ctypes.Structure):
     _fields_ = [(name, ctypes.c_uint64)
-                for name in ("number", "row", "column", "bad", "word", "passes", "sweeps", "drops", "range")]
+                for name in ("number", "row", "column", "bad", "word", "passes", "sweeps", "drops", "range", "rotations")]
 
 
 class Choice(ctypes.Structure):

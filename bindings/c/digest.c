@@ -53,7 +53,7 @@ static void list(const double *a, size_t n) {
 }
 static void told(const merotunki_answer *a) {
     word(a->number), word(a->row), word(a->column), word(a->bad);
-    word(a->word), word(a->passes), word(a->sweeps), word(a->drops), word(a->range);
+    word(a->word), word(a->passes), word(a->sweeps), word(a->drops), word(a->range), word(a->rotations);
 }
 
 int main(void) {

@@ -55,8 +55,8 @@ extern "C" {
 
 /* The version of library and header, and the number of the layout of the structs below. The layout rises whenever a
  * struct changes, so that a program built for one is not run on another. */
-#define MEROTUNKI_VERSION "0.5.0"
-#define MEROTUNKI_LAYOUT 2
+#define MEROTUNKI_VERSION "0.6.0"
+#define MEROTUNKI_LAYOUT 3
 
 /* The largest number of rows and of columns, and the largest limit and credit. */
 #define MEROTUNKI_MOST 48
@@ -87,7 +87,11 @@ typedef struct merotunki_answer {
     uint64_t passes; /* of the walk: each is a sweep or a drop */
     uint64_t sweeps;
     uint64_t drops;
-    uint64_t range; /* how much of the diagonal is still live: 1 where settled */
+    uint64_t range;     /* how much of the diagonal is still live: 1 where settled */
+    uint64_t rotations; /* computed by the sweeps: 2 x (r - 1) by a sweep over range r, none by a drop. Battery use
+                         * follows them rather than the passes. One counts once, whether it turns the matrix alone or U
+                         * and V as well, and one of (0, b), which takes no root, counts too. At most
+                         * 2 x (c - 1) x sweeps, c being the smaller of rows and columns; never above 13,724,000. */
 } merotunki_answer;
 
 /* Where a row lies: its first entry and how many there are. */
@@ -106,7 +110,7 @@ typedef struct merotunki_choice {
 } merotunki_choice;
 
 /* Does not compile where the structs or the lengths are laid out otherwise than the library has them. */
-typedef char merotunki_answer_has_72_bytes[sizeof(merotunki_answer) == 72 ? 1 : -1];
+typedef char merotunki_answer_has_80_bytes[sizeof(merotunki_answer) == 80 ? 1 : -1];
 typedef char merotunki_choice_has_40_bytes[sizeof(merotunki_choice) == 40 ? 1 : -1];
 typedef char merotunki_part_has_16_bytes[sizeof(merotunki_part) == 16 ? 1 : -1];
 typedef char merotunki_length_has_8_bytes[sizeof(size_t) == 8 && sizeof(double) == 8 ? 1 : -1];

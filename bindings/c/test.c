@@ -87,8 +87,10 @@ static merotunki_answer *ordered(job *j) {
                                  j->absolute, j->floor);
 }
 
-static int answered(const job *j, uint64_t word, uint64_t passes, uint64_t sweeps, uint64_t drops, uint64_t range) {
+static int answered(const job *j, uint64_t word, uint64_t passes, uint64_t sweeps, uint64_t drops, uint64_t range,
+                    uint64_t rotations) {
     merotunki_answer a = {.word = word, .passes = passes, .sweeps = sweeps, .drops = drops, .range = range};
+    a.rotations = rotations;
     return memcmp(&a, &j->answer, sizeof a) == 0;
 }
 
@@ -266,35 +268,35 @@ static void known(void) {
     static job a;
     prepare(&a, 2, 1);
     set(&a, (double[]){3, 4});
-    CHECK(plain(&a) == &a.answer && answered(&a, MEROTUNKI_SETTLED, 0, 0, 0, 1));
+    CHECK(plain(&a) == &a.answer && answered(&a, MEROTUNKI_SETTLED, 0, 0, 0, 1, 0));
     CHECK(bits(a.matrix[0]) == bits(-5.0) && bits(a.matrix[1]) == 0);
     prepare(&a, 1, 2);
     set(&a, (double[]){3, 4});
-    CHECK(full(&a) == &a.answer && answered(&a, MEROTUNKI_SETTLED, 0, 0, 0, 1));
+    CHECK(full(&a) == &a.answer && answered(&a, MEROTUNKI_SETTLED, 0, 0, 0, 1, 0));
     CHECK(same(a.matrix, (double[]){-5, 0}, 2) && a.u[0] == 1.0);
     prepare(&a, 1, 1);
     set(&a, (double[]){-3});
-    CHECK(full(&a) && answered(&a, MEROTUNKI_SETTLED, 0, 0, 0, 1) && a.matrix[0] == -3.0);
+    CHECK(full(&a) && answered(&a, MEROTUNKI_SETTLED, 0, 0, 0, 1, 0) && a.matrix[0] == -3.0);
     prepare(&a, 2, 2);
     set(&a, (double[]){2, 0, 0, 1});
-    CHECK(full(&a) && answered(&a, MEROTUNKI_SETTLED, 1, 0, 1, 1));
+    CHECK(full(&a) && answered(&a, MEROTUNKI_SETTLED, 1, 0, 1, 1, 0));
     CHECK(a.matrix[0] == -2 && a.matrix[1] == 0 && a.matrix[2] == 0 && a.matrix[3] == 1);
     CHECK(a.u[0] == -1 && a.u[1] == 0 && a.u[2] == 0 && a.u[3] == 1);
     prepare(&a, 2, 2);
     set(&a, (double[]){2, 0, 0, 1});
     a.limit = 0;
-    CHECK(plain(&a) && answered(&a, MEROTUNKI_QUIET, 0, 0, 0, 2) && a.matrix[0] == -2);
+    CHECK(plain(&a) && answered(&a, MEROTUNKI_QUIET, 0, 0, 0, 2, 0) && a.matrix[0] == -2);
     prepare(&a, 2, 2);
     set(&a, (double[]){0, 0, 0, 0});
     a.limit = 3;
-    CHECK(full(&a) && answered(&a, MEROTUNKI_QUIET, 3, 3, 0, 2) && same(a.matrix, (double[4]){0}, 4));
+    CHECK(full(&a) && answered(&a, MEROTUNKI_QUIET, 3, 3, 0, 2, 6) && same(a.matrix, (double[4]){0}, 4));
     CHECK(same(a.u, (double[]){-0.0, 1, -1, -0.0}, 4) && same(a.v, (double[]){-0.0, 1, -1, -0.0}, 4));
     prepare(&a, 3, 3); /* the first sweep leaves 3, 0, 0 and no coupling, and beside two zeros none is negligible */
     set(&a, (double[]){1, 1, 1, 1, 1, 1, 1, 1, 1});
-    CHECK(plain(&a) && answered(&a, MEROTUNKI_QUIET, 100, 100, 0, 3));
+    CHECK(plain(&a) && answered(&a, MEROTUNKI_QUIET, 100, 100, 0, 3, 400));
     prepare(&a, 2, 2);
     set(&a, (double[]){0, 1, 0, 1});
-    CHECK(plain(&a) && answered(&a, MEROTUNKI_STOPPED, 100, 100, 0, 2) && a.matrix[1] == -1);
+    CHECK(plain(&a) && answered(&a, MEROTUNKI_STOPPED, 100, 100, 0, 2, 200) && a.matrix[1] == -1);
     /* not from the identity: U and V are multiplied from the right as they stand */
     prepare(&a, 2, 2);
     set(&a, (double[]){2, 0, 0, 1});
@@ -347,7 +349,7 @@ static void in_order(void) {
     /* the diagonal is -1, 2: the values come in the other order, and the column of U that goes with -1 is negated */
     prepare(&a, 2, 2);
     set(&a, (double[]){1, 0, 0, 2});
-    CHECK(ordered(&a) == &a.answer && answered(&a, MEROTUNKI_SETTLED, 1, 0, 1, 1));
+    CHECK(ordered(&a) == &a.answer && answered(&a, MEROTUNKI_SETTLED, 1, 0, 1, 1, 0));
     CHECK(equal(a.matrix, (double[]){-1, 0, 0, 2}, 4) && same(a.values, (double[]){2, 1}, 2));
     CHECK(equal(a.u, (double[]){0, 1, 1, 0}, 4) && equal(a.v, (double[]){0, 1, 1, 0}, 4));
     /* equal magnitudes keep their order: -1, 1 */
@@ -379,34 +381,34 @@ static void in_order(void) {
     /* 12: the run did not settle: it stopped */
     prepare(&a, 2, 2);
     set(&a, (double[]){0, 1, 0, 1});
-    CHECK(refused_after_run(&a, 12) && answered(&after, MEROTUNKI_STOPPED, 100, 100, 0, 2));
+    CHECK(refused_after_run(&a, 12) && answered(&after, MEROTUNKI_STOPPED, 100, 100, 0, 2, 200));
     /* or is quiet */
     prepare(&a, 2, 2);
     set(&a, (double[]){0, 0, 0, 0});
     a.limit = 3;
-    CHECK(refused_after_run(&a, 12) && answered(&after, MEROTUNKI_QUIET, 3, 3, 0, 2));
+    CHECK(refused_after_run(&a, 12) && answered(&after, MEROTUNKI_QUIET, 3, 3, 0, 2, 6));
     CHECK(same(after.u, (double[]){-0.0, 1, -1, -0.0}, 4) && same(after.v, (double[]){-0.0, 1, -1, -0.0}, 4));
     prepare(&a, 2, 2);
     set(&a, (double[]){1, 0, 0, 2});
     a.limit = 0;
-    CHECK(refused_after_run(&a, 12) && answered(&after, MEROTUNKI_QUIET, 0, 0, 0, 2));
+    CHECK(refused_after_run(&a, 12) && answered(&after, MEROTUNKI_QUIET, 0, 0, 0, 2, 0));
     CHECK(equal(after.matrix, (double[]){-1, 0, 0, 2}, 4) && equal(after.u, (double[]){-1, 0, 0, 1}, 4));
     /* 13: it settled, and a value is not finite. The root of 2 times the largest double is too large for one. */
     static const size_t shapes[][2] = {{1, 2}, {2, 1}};
     for (size_t i = 0; i < 2; i++) {
         prepare(&a, shapes[i][0], shapes[i][1]);
         set(&a, (double[]){DBL_MAX, DBL_MAX});
-        CHECK(refused_after_run(&a, 13) && answered(&after, MEROTUNKI_SETTLED, 0, 0, 0, 1));
+        CHECK(refused_after_run(&a, 13) && answered(&after, MEROTUNKI_SETTLED, 0, 0, 0, 1, 0));
         CHECK(equal(after.matrix, (double[]){-INFINITY, 0}, 2));
     }
     prepare(&a, 3, 2); /* the last value alone */
     set(&a, (double[]){1, 0, 0, DBL_MAX, 0, DBL_MAX});
-    CHECK(refused_after_run(&a, 13) && answered(&after, MEROTUNKI_SETTLED, 1, 0, 1, 1));
+    CHECK(refused_after_run(&a, 13) && answered(&after, MEROTUNKI_SETTLED, 1, 0, 1, 1, 0));
     CHECK(equal(after.matrix, (double[]){-1, 0, 0, -INFINITY, 0, 0}, 6));
     prepare(&a, 2, 1); /* NaN: 0 times the infinity that is 1 over the smallest double */
     set(&a, (double[]){0, of_bits(1)});
     a.floor = of_bits(1);
-    CHECK(refused_after_run(&a, 13) && answered(&after, MEROTUNKI_SETTLED, 0, 0, 0, 1) && isnan(after.matrix[0]));
+    CHECK(refused_after_run(&a, 13) && answered(&after, MEROTUNKI_SETTLED, 0, 0, 0, 1, 0) && isnan(after.matrix[0]));
     /* 12 comes before 13 */
     prepare(&a, 2, 2);
     set(&a, (double[]){1e160, 1e160, 0, 1e160});
@@ -422,6 +424,13 @@ static uint64_t word_by_rule(const job *j) {
     return range == 1 ? MEROTUNKI_SETTLED : still ? MEROTUNKI_QUIET : MEROTUNKI_STOPPED;
 }
 
+/* Whether the rotations are as many as can be: 2 x (r - 1) in each sweep, where r is no more than the smaller of rows
+ * and columns and no less than the range left. */
+static int rotations_in_bounds(const job *j) {
+    const uint64_t c = j->rows < j->columns ? j->rows : j->columns, n = j->answer.rotations;
+    return n % 2 == 0 && n >= 2 * (j->answer.range - 1) * j->answer.sweeps && n <= 2 * (c - 1) * j->answer.sweeps;
+}
+
 /* Whether the three calls on this job end with the word of the rule: the plain and the accumulating one are accepted
  * with the same answer and matrix, the ordered one is where that settled with finite values, and is refused by 12 where
  * it did not settle. Then `after` is what it left, but for the number, which is 0. */
@@ -432,6 +441,7 @@ static int ended(const job *start) {
     full(&after);
     if (run.answer.number != 0 || memcmp(&run.answer, &after.answer, sizeof run.answer) != 0) return 0;
     if (!all_alike(run.matrix, after.matrix, LONG) || run.answer.word != word_by_rule(&run)) return 0;
+    if (!rotations_in_bounds(&run)) return 0;
     if (run.answer.word != MEROTUNKI_SETTLED) return refused_after_run(start, 12);
     run = after = *start;
     full(&run);
@@ -442,44 +452,44 @@ static int ended(const job *start) {
 static const struct ending {
     size_t rows, columns, limit, credit;
     double floor;
-    uint64_t word, passes, sweeps, drops, range;
+    uint64_t word, passes, sweeps, drops, range, rotations;
     double entries[16];
 } endings[] = {
 #define QUIET MEROTUNKI_QUIET
 #define STOPPED MEROTUNKI_STOPPED
-    {2, 2, 3, 50, 1e-21, QUIET, 3, 3, 0, 2, {0}}, /* zeros: their bound is 0, and 0 is not below it */
-    {2, 2, 0, 50, 1e-21, QUIET, 0, 0, 0, 2, {0}},
-    {5, 3, 100, 50, 1e-21, QUIET, 100, 100, 0, 3, {0}},
-    {2, 3, 3, 50, 1e-21, QUIET, 3, 3, 0, 2, {0}}, /* the lower form */
-    {2, 5, 100, 50, 1e-21, QUIET, 100, 100, 0, 2, {0, -0.0, 0, 0, -0.0, 0, 0, -0.0, 0, 0}},
-    {2, 2, 0, 50, 1e-21, QUIET, 0, 0, 0, 2, {2, 0, 0, 1}}, /* not final: the same at limit 1 settles */
-    {2, 2, 1, 50, 1e-21, MEROTUNKI_SETTLED, 1, 0, 1, 1, {2, 0, 0, 1}},
-    {3, 4, 0, 50, 1e-21, QUIET, 0, 0, 0, 3, {1, 0, 0, 0, 0, 2, 0, 0, 0, 0, 4, 0}},
-    {2, 2, 0, 50, 1e-21, QUIET, 0, 0, 0, 2, {1, -0.0, 0, 1}}, /* the couplings are -0 */
-    {3, 3, 0, 50, 1e-21, QUIET, 0, 0, 0, 3, {1, -0.0, 0, 0, 2, -0.0, 0, 0, 3}},
-    {2, 2, 0, 50, 1e-21, QUIET, 0, 0, 0, 2, {-0.0, -0.0, -0.0, -0.0}},
+    {2, 2, 3, 50, 1e-21, QUIET, 3, 3, 0, 2, 6, {0}}, /* zeros: their bound is 0, and 0 is not below it */
+    {2, 2, 0, 50, 1e-21, QUIET, 0, 0, 0, 2, 0, {0}},
+    {5, 3, 100, 50, 1e-21, QUIET, 100, 100, 0, 3, 400, {0}},
+    {2, 3, 3, 50, 1e-21, QUIET, 3, 3, 0, 2, 6, {0}}, /* the lower form */
+    {2, 5, 100, 50, 1e-21, QUIET, 100, 100, 0, 2, 200, {0, -0.0, 0, 0, -0.0, 0, 0, -0.0, 0, 0}},
+    {2, 2, 0, 50, 1e-21, QUIET, 0, 0, 0, 2, 0, {2, 0, 0, 1}}, /* not final: the same at limit 1 settles */
+    {2, 2, 1, 50, 1e-21, MEROTUNKI_SETTLED, 1, 0, 1, 1, 0, {2, 0, 0, 1}},
+    {3, 4, 0, 50, 1e-21, QUIET, 0, 0, 0, 3, 0, {1, 0, 0, 0, 0, 2, 0, 0, 0, 0, 4, 0}},
+    {2, 2, 0, 50, 1e-21, QUIET, 0, 0, 0, 2, 0, {1, -0.0, 0, 1}}, /* the couplings are -0 */
+    {3, 3, 0, 50, 1e-21, QUIET, 0, 0, 0, 3, 0, {1, -0.0, 0, 0, 2, -0.0, 0, 0, 3}},
+    {2, 2, 0, 50, 1e-21, QUIET, 0, 0, 0, 2, 0, {-0.0, -0.0, -0.0, -0.0}},
     /* one coupling that is not 0 is enough: the first, the last, the one between, in either form */
-    {3, 3, 0, 50, 1e-21, STOPPED, 0, 0, 0, 3, {1, 2, 0, 0, 3, 0, 0, 0, 4}},
-    {3, 3, 0, 50, 1e-21, STOPPED, 0, 0, 0, 3, {1, 0, 0, 0, 2, 3, 0, 0, 4}},
-    {4, 4, 0, 50, 1e-21, STOPPED, 0, 0, 0, 4, {1, 0, 0, 0, 0, 2, 5, 0, 0, 0, 3, 0, 0, 0, 0, 4}},
-    {4, 3, 0, 50, 1e-21, STOPPED, 0, 0, 0, 3, {1, 2, 0, 0, 3, 0, 0, 0, 4, 0, 0, 0}},
-    {4, 3, 0, 50, 1e-21, STOPPED, 0, 0, 0, 3, {1, 0, 0, 0, 3, 2, 0, 0, 4, 0, 0, 0}},
-    {3, 4, 0, 50, 1e-21, STOPPED, 0, 0, 0, 3, {1, 0, 0, 0, 2, 3, 0, 0, 0, 0, 4, 0}},
-    {3, 4, 0, 50, 1e-21, STOPPED, 0, 0, 0, 3, {1, 0, 0, 0, 0, 2, 0, 0, 0, 3, 4, 0}},
-    {2, 2, 0, 50, 1e-21, STOPPED, 0, 0, 0, 2, {1, 5e-324, 0, 1}}, /* as small as can be, and not 0 */
-    {2, 2, 0, 50, 1e-21, STOPPED, 0, 0, 0, 2, {1, -5e-324, 0, 1}},
-    {2, 3, 0, 50, 1e-21, STOPPED, 0, 0, 0, 2, {1, 0, 0, 5e-324, 1, 0}},
-    {2, 2, 100, 50, 1e-21, STOPPED, 100, 100, 0, 2, {1e160, 1e160, 0, 1e160}}, /* NaN is not 0 */
+    {3, 3, 0, 50, 1e-21, STOPPED, 0, 0, 0, 3, 0, {1, 2, 0, 0, 3, 0, 0, 0, 4}},
+    {3, 3, 0, 50, 1e-21, STOPPED, 0, 0, 0, 3, 0, {1, 0, 0, 0, 2, 3, 0, 0, 4}},
+    {4, 4, 0, 50, 1e-21, STOPPED, 0, 0, 0, 4, 0, {1, 0, 0, 0, 0, 2, 5, 0, 0, 0, 3, 0, 0, 0, 0, 4}},
+    {4, 3, 0, 50, 1e-21, STOPPED, 0, 0, 0, 3, 0, {1, 2, 0, 0, 3, 0, 0, 0, 4, 0, 0, 0}},
+    {4, 3, 0, 50, 1e-21, STOPPED, 0, 0, 0, 3, 0, {1, 0, 0, 0, 3, 2, 0, 0, 4, 0, 0, 0}},
+    {3, 4, 0, 50, 1e-21, STOPPED, 0, 0, 0, 3, 0, {1, 0, 0, 0, 2, 3, 0, 0, 0, 0, 4, 0}},
+    {3, 4, 0, 50, 1e-21, STOPPED, 0, 0, 0, 3, 0, {1, 0, 0, 0, 0, 2, 0, 0, 0, 3, 4, 0}},
+    {2, 2, 0, 50, 1e-21, STOPPED, 0, 0, 0, 2, 0, {1, 5e-324, 0, 1}}, /* as small as can be, and not 0 */
+    {2, 2, 0, 50, 1e-21, STOPPED, 0, 0, 0, 2, 0, {1, -5e-324, 0, 1}},
+    {2, 3, 0, 50, 1e-21, STOPPED, 0, 0, 0, 2, 0, {1, 0, 0, 5e-324, 1, 0}},
+    {2, 2, 100, 50, 1e-21, STOPPED, 100, 100, 0, 2, 200, {1e160, 1e160, 0, 1e160}}, /* NaN is not 0 */
     /* behind the corner: a drop has left the last coupling, 1e-13, which is not asked; and no help where it is 0 */
-    {3, 3, 1, 0, 1e-21, QUIET, 1, 0, 1, 2, {1, 0, 0, 0, 2, 1e-13, 0, 0, 4}},
-    {3, 4, 1, 0, 1e-21, QUIET, 1, 0, 1, 2, {1, 0, 0, 0, 0, 2, 0, 0, 0, 1e-13, 4, 0}},
-    {3, 3, 1, 0, 1e-21, STOPPED, 1, 0, 1, 2, {1, 3, 0, 0, 2, 0, 0, 0, 4}},
+    {3, 3, 1, 0, 1e-21, QUIET, 1, 0, 1, 2, 0, {1, 0, 0, 0, 2, 1e-13, 0, 0, 4}},
+    {3, 4, 1, 0, 1e-21, QUIET, 1, 0, 1, 2, 0, {1, 0, 0, 0, 0, 2, 0, 0, 0, 1e-13, 4, 0}},
+    {3, 3, 1, 0, 1e-21, STOPPED, 1, 0, 1, 2, 0, {1, 3, 0, 0, 2, 0, 0, 0, 4}},
     /* on the other side of the diagonal: not asked, and no help where it is 0. A sweep of the first leaves -2^-54 */
-    {2, 2, 1, 50, 1e-21, QUIET, 1, 1, 0, 2, {0, 3, 1, 3}},
-    {2, 3, 0, 50, 1000, QUIET, 0, 0, 0, 2, {1, 2, 3, 0, 4, 5}},
-    {2, 3, 0, 50, 1000, STOPPED, 0, 0, 0, 2, {1, 0, 0, 7, 4, 5}},
-    {2, 2, 0, 50, 1000, STOPPED, 0, 0, 0, 2, {1, 7, 0, 4}},
-    {3, 3, 0, 50, 1000, QUIET, 0, 0, 0, 3, {1, 0, 3, 0, 4, 0, 0, 0, 5}}, /* a row's tail is no coupling */
+    {2, 2, 1, 50, 1e-21, QUIET, 1, 1, 0, 2, 2, {0, 3, 1, 3}},
+    {2, 3, 0, 50, 1000, QUIET, 0, 0, 0, 2, 0, {1, 2, 3, 0, 4, 5}},
+    {2, 3, 0, 50, 1000, STOPPED, 0, 0, 0, 2, 0, {1, 0, 0, 7, 4, 5}},
+    {2, 2, 0, 50, 1000, STOPPED, 0, 0, 0, 2, 0, {1, 7, 0, 4}},
+    {3, 3, 0, 50, 1000, QUIET, 0, 0, 0, 3, 0, {1, 0, 3, 0, 4, 0, 0, 0, 5}}, /* a row's tail is no coupling */
 #undef QUIET
 #undef STOPPED
 };
@@ -503,7 +513,7 @@ static void quiet(void) {
         prepare(&a, e->rows, e->columns);
         set(&a, e->entries);
         a.limit = e->limit, a.credit = e->credit, a.floor = e->floor;
-        int good = ended(&a) && answered(&after, e->word, e->passes, e->sweeps, e->drops, e->range);
+        int good = ended(&a) && answered(&after, e->word, e->passes, e->sweeps, e->drops, e->range, e->rotations);
         if (!good) printf("ending %d: word %d\n", (int)i, (int)after.answer.word);
         CHECK(good);
     }
@@ -519,7 +529,8 @@ static void quiet(void) {
     /* quiet is not final: with a bound of 0 the next sweep of the same table leaves a coupling, 2^-51.4 */
     a.limit = 2, a.tolerance = 0;
     set(&a, (double[]){0, 3, 1, 3});
-    CHECK(plain(&a) && answered(&a, MEROTUNKI_STOPPED, 2, 2, 0, 2) && a.matrix[1] > 0x1p-52 && a.matrix[1] < 0x1p-51);
+    CHECK(plain(&a) && answered(&a, MEROTUNKI_STOPPED, 2, 2, 0, 2, 4));
+    CHECK(a.matrix[1] > 0x1p-52 && a.matrix[1] < 0x1p-51);
     /* drawn tables of many shapes, and how often each word came, in either form */
     size_t met[2][4] = {{0}};
     for (size_t i = 0; i < 4000; i++) {
@@ -530,6 +541,69 @@ static void quiet(void) {
     }
     for (size_t form = 0; form < 2; form++)
         for (size_t word = MEROTUNKI_SETTLED; word <= MEROTUNKI_QUIET; word++) CHECK(met[form][word] > 50);
+}
+
+/* Pass by pass, with the credit 0: at each limit the run makes one pass more than at the one before, until it settles.
+ * A sweep over range r adds 2 x (r - 1) rotations, a drop none. Counts the passes of each kind. */
+static void pass_by_pass(const job *start, uint64_t most, size_t *sweeps, size_t *drops) {
+    static job run;
+    merotunki_answer was = {0};
+    for (uint64_t limit = 0; limit <= most; limit++) {
+        run = *start;
+        run.limit = limit, run.credit = 0;
+        const merotunki_answer now_at = *plain(&run);
+        if (limit == 0) {
+            CHECK(now_at.number == 0 && now_at.passes == 0 && now_at.rotations == 0);
+        } else if (now_at.sweeps > was.sweeps) {
+            CHECK(now_at.sweeps == was.sweeps + 1 && now_at.drops == was.drops && now_at.range == was.range);
+            CHECK(now_at.rotations == was.rotations + 2 * (was.range - 1));
+            ++*sweeps;
+        } else if (now_at.drops > was.drops) {
+            CHECK(now_at.drops == was.drops + 1 && now_at.range == was.range - 1);
+            CHECK(now_at.rotations == was.rotations);
+            ++*drops;
+        } else {
+            CHECK(now_at.word == MEROTUNKI_SETTLED && memcmp(&now_at, &was, sizeof was) == 0);
+            return;
+        }
+        was = now_at;
+    }
+}
+
+/* Rotations: by the rule, from pass to pass; by hand, where there is no drop; the three calls alike. */
+static void rotations(void) {
+    static job a;
+    size_t sweeps = 0, drops = 0;
+    static const size_t shapes[][2] = {{2, 2}, {5, 3}, {3, 5}, {8, 8}, {13, 16}, {16, 13}};
+    for (size_t i = 0; i < sizeof shapes / sizeof *shapes; i++) {
+        seed = i;
+        prepare(&a, shapes[i][0], shapes[i][1]);
+        CHECK(ended(&a));
+        pass_by_pass(&a, 100, &sweeps, &drops);
+    }
+    for (size_t i = 0; i < 60; i++) { /* with zeros among them, so that some rotations take no root */
+        seed = i;
+        sparse(&a, 2 + i % 5, 2 + i / 5 % 5);
+        pass_by_pass(&a, 12, &sweeps, &drops);
+    }
+    CHECK(sweeps > 200 && drops > 50);
+    /* zeros: every pass is a sweep over all, and every rotation is one of (0, 0) */
+    for (size_t c = 2; c <= MOST; c++) {
+        prepare(&a, c, c);
+        memset(a.matrix, 0, sizeof a.matrix);
+        a.limit = 3;
+        CHECK(ended(&a) && answered(&after, MEROTUNKI_QUIET, 3, 3, 0, c, 2 * (c - 1) * 3));
+    }
+    /* as many as one range can come to: 48 x 48 at the greatest limit */
+    a.limit = MEROTUNKI_MOST_LIMIT, a.credit = MEROTUNKI_MOST_CREDIT;
+    CHECK(plain(&a) && answered(&a, MEROTUNKI_QUIET, 100000, 100000, 0, MOST, 9400000));
+    /* one value: none, whatever the limit */
+    static const size_t thin[][2] = {{1, 1}, {48, 1}, {1, 48}};
+    for (size_t i = 0; i < 3; i++) {
+        prepare(&a, thin[i][0], thin[i][1]);
+        a.limit = MEROTUNKI_MOST_LIMIT;
+        CHECK(ended(&a) && answered(&after, MEROTUNKI_SETTLED, 0, 0, 0, 1, 0));
+    }
 }
 
 /* The distances between the table as it was and U x matrix x (V transposed), added up. */
@@ -552,16 +626,16 @@ static double distance(const job *j, const double *was) {
 }
 
 /* Drawn tables, and for each the passes and a sum over the bits of matrix, U and V, as the original Rust gives them
- * (by the oracle in beside/). */
+ * (by the oracle in beside/), and the rotations of these passes by the rule: 2 x (r - 1) for a sweep over range r. */
 static const struct known {
     size_t rows, columns;
-    uint64_t passes, sum;
+    uint64_t passes, rotations, sum;
 } answers[] = {
-    {1, 1, 0, UINT64_C(0x3159F754ACA15057)},     {1, 7, 0, UINT64_C(0x014C4C0133E42B9D)},
-    {7, 1, 0, UINT64_C(0x881D90FA72676BAC)},     {2, 2, 2, UINT64_C(0xA0D61E8BEA8827CC)},
-    {3, 5, 5, UINT64_C(0xD8E8EA386B72070B)},     {5, 3, 8, UINT64_C(0x959C80C81842B9B5)},
-    {8, 8, 21, UINT64_C(0x010B05660EF4375E)},    {16, 48, 46, UINT64_C(0xF251AC3E5A1E9DE9)},
-    {48, 17, 52, UINT64_C(0x3AC4289425D94029)},  {48, 48, 128, UINT64_C(0xE5CEE60EB3644596)},
+    {1, 1, 0, 0, UINT64_C(0x3159F754ACA15057)},      {1, 7, 0, 0, UINT64_C(0x014C4C0133E42B9D)},
+    {7, 1, 0, 0, UINT64_C(0x881D90FA72676BAC)},      {2, 2, 2, 2, UINT64_C(0xA0D61E8BEA8827CC)},
+    {3, 5, 5, 10, UINT64_C(0xD8E8EA386B72070B)},     {5, 3, 8, 22, UINT64_C(0x959C80C81842B9B5)},
+    {8, 8, 21, 142, UINT64_C(0x010B05660EF4375E)},   {16, 48, 46, 552, UINT64_C(0xF251AC3E5A1E9DE9)},
+    {48, 17, 52, 710, UINT64_C(0x3AC4289425D94029)}, {48, 48, 128, 4312, UINT64_C(0xE5CEE60EB3644596)},
 };
 #define ANSWERS (sizeof answers / sizeof *answers)
 
@@ -583,6 +657,7 @@ static void drawn_tables(void) {
         full(&b);
         CHECK(a.answer.number == 0 && a.answer.word == MEROTUNKI_SETTLED && a.answer.range == 1);
         CHECK(a.answer.passes == answers[i].passes && a.answer.passes == a.answer.sweeps + a.answer.drops);
+        CHECK(a.answer.rotations == answers[i].rotations && rotations_in_bounds(&a));
         CHECK(same(a.matrix, b.matrix, LONG) && memcmp(&a.answer, &b.answer, sizeof a.answer) == 0);
         CHECK(same(a.matrix + a.matrix_length, was + a.matrix_length, LONG - a.matrix_length));
         CHECK(distance(&b, was) < 1e-9);
@@ -704,6 +779,7 @@ int main(void) {
     known();
     in_order();
     quiet();
+    rotations();
     drawn_tables();
     identities();
     rows();

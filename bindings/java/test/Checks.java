@@ -37,9 +37,10 @@ class Checks {
         check(good, what + ": " + Arrays.toString(a));
     }
 
-    static void reported(Report r, String text, int sweeps, int drops, int range) {
+    static void reported(Report r, String text, int sweeps, int drops, int range, int rotations) {
         check(r.toString().equals(text) && r.sweeps == sweeps && r.drops == drops && r.range == range
                 && r.passes == sweeps + drops, "the report is " + text + ", not " + r);
+        check(r.rotations == rotations, rotations + " rotations of " + text + ", not " + r.rotations);
         check(text.startsWith(r.word.name().toLowerCase(Locale.ROOT) + ","), "the word of " + text + ", not " + r.word);
     }
 

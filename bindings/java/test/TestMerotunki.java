@@ -56,22 +56,22 @@ class TestMerotunki extends Checks {
     static void knownTables() throws Exception {
         double[] readings = {3.0, 4.0};
         Split split = Merotunki.split(readings, 2, 1, PLAIN);
-        reported(split.report, "settled, passes 0", 0, 0, 1);
+        reported(split.report, "settled, passes 0", 0, 0, 1, 0);
         same(split.matrix(), new double[] {-5.0, 0.0}, "2 x 1");
         same(split.values(), new double[] {-5.0}, "the value of 2 x 1");
         check(split.stations == 2 && split.passes == 1, "the sizes of 2 x 1");
         same(readings, new double[] {3.0, 4.0}, "the readings stay");
 
         FullSplit full = Merotunki.splitFull(new double[] {2.0, 0.0, 0.0, 1.0}, 2, 2, PLAIN);
-        reported(full.report, "settled, passes 1", 0, 1, 1);
+        reported(full.report, "settled, passes 1", 0, 1, 1, 0);
         same(full.matrix(), new double[] {-2.0, 0.0, 0.0, 1.0}, "2 x 2");
         same(full.u(), new double[] {-1.0, 0.0, 0.0, 1.0}, "U of 2 x 2");
         same(full.v(), new double[] {1.0, 0.0, 0.0, 1.0}, "V of 2 x 2");
 
         split = Merotunki.split(new double[] {0.0, 1.0, 0.0, 1.0}, 2, 2, PLAIN);
-        reported(split.report, "stopped, passes 100, range left 2", 100, 0, 2);
+        reported(split.report, "stopped, passes 100, range left 2", 100, 0, 2, 200);
         split = Merotunki.split(new double[4], 2, 2, PLAIN.withLimit(3));
-        reported(split.report, "quiet, passes 3, range left 2", 3, 0, 2);
+        reported(split.report, "quiet, passes 3, range left 2", 3, 0, 2, 6);
 
         double[] example = {1.2, 1.4, 1.1, 2.4, 2.5, 2.9, 1.9, 2.6, 1.8, 0.7, 0.9, 1.3};
         double[] were = example.clone();
@@ -94,35 +94,73 @@ class TestMerotunki extends Checks {
     }
 
     static void ended(double[] readings, int stations, int passes, Settings settings, String text, int sweeps, int drops,
-            int range) throws Exception {
-        reported(Merotunki.split(readings, stations, passes, settings).report, text, sweeps, drops, range);
-        reported(Merotunki.splitFull(readings, stations, passes, settings).report, text, sweeps, drops, range);
+            int range, int rotations) throws Exception {
+        Report plain = Merotunki.split(readings, stations, passes, settings).report;
+        Report full = Merotunki.splitFull(readings, stations, passes, settings).report;
+        reported(plain, text, sweeps, drops, range, rotations);
+        reported(full, text, sweeps, drops, range, rotations);
     }
 
     // Where the limit runs out: quiet where every coupling of the live corner is +0 or -0, else stopped.
     static void quietOrStopped() throws Exception {
         Settings none = PLAIN.withLimit(0);
         // zeros, of either sign, in either form: a calm roadway
-        ended(new double[4], 2, 2, none, "quiet, passes 0, range left 2", 0, 0, 2);
-        ended(new double[] {-0.0, -0.0, -0.0, -0.0}, 2, 2, none, "quiet, passes 0, range left 2", 0, 0, 2);
-        ended(new double[10], 2, 5, PLAIN, "quiet, passes 100, range left 2", 100, 0, 2);
+        ended(new double[4], 2, 2, none, "quiet, passes 0, range left 2", 0, 0, 2, 0);
+        ended(new double[] {-0.0, -0.0, -0.0, -0.0}, 2, 2, none, "quiet, passes 0, range left 2", 0, 0, 2, 0);
+        ended(new double[10], 2, 5, PLAIN, "quiet, passes 100, range left 2", 100, 0, 2, 200);
         // not final: the same table settles at limit 1
         double[] apart = {2.0, 0.0, 0.0, 1.0};
-        ended(apart, 2, 2, none, "quiet, passes 0, range left 2", 0, 0, 2);
-        ended(apart, 2, 2, PLAIN.withLimit(1), "settled, passes 1", 0, 1, 1);
+        ended(apart, 2, 2, none, "quiet, passes 0, range left 2", 0, 0, 2, 0);
+        ended(apart, 2, 2, PLAIN.withLimit(1), "settled, passes 1", 0, 1, 1, 0);
         // one coupling that is not 0, and be it as small as can be
         double[] first = {1.0, 2.0, 0.0, 0.0, 3.0, 0.0, 0.0, 0.0, 4.0};
         double[] last = {1.0, 0.0, 0.0, 0.0, 2.0, 3.0, 0.0, 0.0, 4.0};
-        ended(first, 3, 3, none, "stopped, passes 0, range left 3", 0, 0, 3);
-        ended(last, 3, 3, none, "stopped, passes 0, range left 3", 0, 0, 3);
+        ended(first, 3, 3, none, "stopped, passes 0, range left 3", 0, 0, 3, 0);
+        ended(last, 3, 3, none, "stopped, passes 0, range left 3", 0, 0, 3, 0);
         double least = Double.MIN_VALUE;
-        ended(new double[] {1.0, least, 0.0, 1.0}, 2, 2, none, "stopped, passes 0, range left 2", 0, 0, 2);
-        ended(new double[] {1.0, 0.0, 0.0, least, 1.0, 0.0}, 2, 3, none, "stopped, passes 0, range left 2", 0, 0, 2);
+        ended(new double[] {1.0, least, 0.0, 1.0}, 2, 2, none, "stopped, passes 0, range left 2", 0, 0, 2, 0);
+        ended(new double[] {1.0, 0.0, 0.0, least, 1.0, 0.0}, 2, 3, none, "stopped, passes 0, range left 2", 0, 0, 2, 0);
         // NaN is not 0
-        ended(new double[] {1e160, 1e160, 0.0, 1e160}, 2, 2, PLAIN, "stopped, passes 100, range left 2", 100, 0, 2);
+        double[] large = {1e160, 1e160, 0.0, 1e160};
+        ended(large, 2, 2, PLAIN, "stopped, passes 100, range left 2", 100, 0, 2, 200);
         // behind the corner nothing is asked
         double[] behind = {1.0, 0.0, 0.0, 0.0, 2.0, 1e-13, 0.0, 0.0, 4.0};
-        ended(behind, 3, 3, PLAIN.withLimit(1).withCredit(0), "quiet, passes 1, range left 2", 0, 1, 2);
+        ended(behind, 3, 3, PLAIN.withLimit(1).withCredit(0), "quiet, passes 1, range left 2", 0, 1, 2, 0);
+    }
+
+    // From one limit to the next, with the credit 0, the run makes one pass more, until it settles: a sweep over range
+    // r adds 2 x (r - 1) rotations, a drop none.
+    static void passByPass(double[] readings, int stations, int passes) throws Exception {
+        String what = "rotations pass by pass, " + stations + " x " + passes;
+        Report last = Merotunki.split(readings, stations, passes, PLAIN.withCredit(0).withLimit(0)).report;
+        check(last.rotations == 0 && last.passes == 0, what);
+        for (int limit = 1; last.word != Report.Word.SETTLED && limit < 100; limit++) {
+            Settings settings = PLAIN.withCredit(0).withLimit(limit);
+            Report next = Merotunki.split(readings, stations, passes, settings).report;
+            int more = next.sweeps > last.sweeps ? 2 * (last.range - 1) : 0;
+            check(next.passes == limit && next.rotations == last.rotations + more, what + " at limit " + limit);
+            check(Merotunki.splitFull(readings, stations, passes, settings).report.rotations == next.rotations,
+                    what + " with U and V at limit " + limit);
+            last = next;
+        }
+        check(last.word == Report.Word.SETTLED && last.rotations > 0, what + ": it settles");
+        check(Merotunki.splitInOrder(readings, stations, passes, PLAIN).report.rotations == last.rotations,
+                what + " in order");
+    }
+
+    static void rotations() throws Exception {
+        int[][] shapes = {{2, 2}, {5, 3}, {3, 5}, {8, 8}};
+        for (int i = 0; i < shapes.length; i++) {
+            passByPass(drawn(i, shapes[i][0] * shapes[i][1]), shapes[i][0], shapes[i][1]);
+        }
+        // zeros never drop: every sweep is over the whole diagonal; one value is never swept
+        for (int c = 1; c <= Merotunki.MOST; c++) {
+            Report r = Merotunki.split(new double[c * c], c, c, PLAIN.withLimit(7)).report;
+            check(r.rotations == 2 * (c - 1) * 7, "rotations of " + c + " x " + c + " zeros, not " + r.rotations);
+        }
+        Settings most = PLAIN.withLimit(100000).withCredit(1000);
+        int many = Merotunki.split(new double[9], 3, 3, most).report.rotations;
+        check(many == 400000, "400000 rotations of zeros at the greatest limit, not " + many);
     }
 
     static void rowsAndColumns(FullSplit s) {
@@ -142,12 +180,13 @@ class TestMerotunki extends Checks {
         check(good, "rows and columns of U and V");
     }
 
-    // sizes, passes of the walk, and a sum over the bits of table, U and V as the original method gives them
+    // sizes, passes of the walk, their rotations by the rule (2 x (r - 1) for a sweep over range r), and a sum over the
+    // bits of table, U and V; passes and sum as the original method gives them
     static final long[][] ANSWERS = {
-        {1, 1, 0, 0x3159F754ACA15057L}, {1, 7, 0, 0x014C4C0133E42B9DL}, {7, 1, 0, 0x881D90FA72676BACL},
-        {2, 2, 2, 0xA0D61E8BEA8827CCL}, {3, 5, 5, 0xD8E8EA386B72070BL}, {5, 3, 8, 0x959C80C81842B9B5L},
-        {8, 8, 21, 0x010B05660EF4375EL}, {16, 48, 46, 0xF251AC3E5A1E9DE9L}, {48, 17, 52, 0x3AC4289425D94029L},
-        {48, 48, 128, 0xE5CEE60EB3644596L}};
+        {1, 1, 0, 0, 0x3159F754ACA15057L}, {1, 7, 0, 0, 0x014C4C0133E42B9DL}, {7, 1, 0, 0, 0x881D90FA72676BACL},
+        {2, 2, 2, 2, 0xA0D61E8BEA8827CCL}, {3, 5, 5, 10, 0xD8E8EA386B72070BL}, {5, 3, 8, 22, 0x959C80C81842B9B5L},
+        {8, 8, 21, 142, 0x010B05660EF4375EL}, {16, 48, 46, 552, 0xF251AC3E5A1E9DE9L},
+        {48, 17, 52, 710, 0x3AC4289425D94029L}, {48, 48, 128, 4312, 0xE5CEE60EB3644596L}};
 
     static void toTheBit() throws Exception {
         for (int i = 0; i < ANSWERS.length; i++) {
@@ -160,7 +199,9 @@ class TestMerotunki extends Checks {
                     sum = (sum ^ Double.doubleToRawLongBits(x)) * 0x100000001B3L;
                 }
             }
-            check(s.report.passes == ANSWERS[i][2] && sum == ANSWERS[i][3], "each bit of " + stations + " x " + passes);
+            String what = stations + " x " + passes;
+            check(s.report.passes == ANSWERS[i][2] && sum == ANSWERS[i][4], "each bit of " + what);
+            check(s.report.rotations == ANSWERS[i][3], "rotations of " + what + ", not " + s.report.rotations);
         }
     }
 
@@ -193,7 +234,8 @@ class TestMerotunki extends Checks {
         same(split.u(), u, "U in order, " + what);
         same(split.v(), v, "V in order, " + what);
         same(split.matrix(), run.matrix(), "the matrix is the run's, " + what);
-        check(split.report.toString().equals(run.report.toString()), "the report is the run's, " + what);
+        Report r = run.report;
+        reported(split.report, r.toString(), r.sweeps, r.drops, r.range, r.rotations);
     }
 
     static void ranAndRefused(double[] readings, int stations, int passes, Settings settings, int number, String text)
@@ -207,7 +249,8 @@ class TestMerotunki extends Checks {
             return; // that has failed already
         }
         FullSplit wanted = Merotunki.splitFull(readings, stations, passes, settings);
-        reported(refusal.run.report, text, wanted.report.sweeps, wanted.report.drops, wanted.report.range);
+        Report r = wanted.report;
+        reported(refusal.run.report, text, r.sweeps, r.drops, r.range, r.rotations);
         same(refusal.run.matrix(), wanted.matrix(), "the run's matrix, " + what);
         same(refusal.run.u(), wanted.u(), "the run's U, " + what);
         same(refusal.run.v(), wanted.v(), "the run's V, " + what);
@@ -363,6 +406,7 @@ class TestMerotunki extends Checks {
     public static void main(String[] words) throws Exception {
         knownTables();
         quietOrStopped();
+        rotations();
         toTheBit();
         inOrder();
         refusals();

@@ -9,7 +9,7 @@
 //! let mut readings = [2.0, 0.0, 0.0, 1.0]; // 2 stations, 2 passes, station by station
 //! let mut table = Table::new(&mut readings, 2, 2)?;
 //! let (report, factors) = table.split_full(&Settings::default())?;
-//! assert_eq!(report, Report::Settled { passes: 1, sweeps: 0, drops: 1 });
+//! assert_eq!(report, Report::Settled { passes: 1, sweeps: 0, drops: 1, rotations: 0 });
 //! assert_eq!(table.values().collect::<Vec<_>>(), [-2.0, 1.0]);
 //! assert_eq!(factors.station(0), Some(&[-1.0, 0.0][..]));
 //! assert_eq!(factors.station(2), None);

@@ -4,21 +4,44 @@ use crate::raw::Answer;
 use std::fmt;
 
 /// How a split's run ended. The passes are those of the method's walk, not the survey's; each is a
-/// sweep or a drop.
+/// sweep or a drop. Rotations are what the sweeps compute: [`Report::rotations`] has them whatever the
+/// word.
 #[derive(Clone, Copy, Debug, PartialEq, Eq)]
 #[allow(missing_docs)]
 pub enum Report {
     /// Every coupling was found negligible. The answer is the same at every greater limit.
-    Settled { passes: u64, sweeps: u64, drops: u64 },
+    Settled { passes: u64, sweeps: u64, drops: u64, rotations: u64 },
     /// The limit ran out before, and a coupling that is left is not 0. `range`, above 1, is how much of
     /// the diagonal was still live; tables near rank 1 often end so. Show the values with that in mind.
-    Stopped { passes: u64, sweeps: u64, drops: u64, range: u64 },
+    Stopped { passes: u64, sweeps: u64, drops: u64, range: u64, rotations: u64 },
     /// The limit ran out before, and every coupling that is left is +0 or -0: nothing was left to work
     /// out, but the method's own test did not call it done. It is no failure, and not final: at a
     /// greater limit the answer can be another. A table of zeros ends so: show "Calm: no air moved at any
     /// station. There is nothing to split." Of another one show "Quiet: nothing is left to work out, but
     /// the values are not final."
-    Quiet { passes: u64, sweeps: u64, drops: u64, range: u64 },
+    Quiet { passes: u64, sweeps: u64, drops: u64, range: u64, rotations: u64 },
+}
+
+impl Report {
+    /// Rotations computed by the sweeps: 2 x (r - 1) by a sweep over a range of r values, none by a drop.
+    /// Battery use follows them rather than the passes. One counts once, with U and V or without. At
+    /// most 2 x (c - 1) x sweeps, c being the smaller of the survey's stations and passes; never above
+    /// 13,724,000.
+    ///
+    /// ```
+    /// use merotunki::{Refusal, Settings, Table};
+    ///
+    /// let mut calm = [0.0; 48 * 48];
+    /// let report = Table::new(&mut calm, 48, 48)?.split(&Settings::default())?;
+    /// assert_eq!(report.rotations(), 2 * 47 * 100); // 100 sweeps over all of the 48 values
+    /// # Ok::<(), Refusal>(())
+    /// ```
+    pub fn rotations(&self) -> u64 {
+        let (Report::Settled { rotations, .. }
+        | Report::Stopped { rotations, .. }
+        | Report::Quiet { rotations, .. }) = *self;
+        rotations
+    }
 }
 
 impl fmt::Display for Report {
@@ -135,11 +158,11 @@ impl std::error::Error for Refusal {}
 
 // The report of an answer to a run. The library has no other words than these three then.
 pub(crate) fn report(answer: Answer) -> Report {
-    let Answer { word, passes, sweeps, drops, range, .. } = answer;
+    let Answer { word, passes, sweeps, drops, range, rotations, .. } = answer;
     match word {
-        Answer::SETTLED => Report::Settled { passes, sweeps, drops },
-        Answer::STOPPED => Report::Stopped { passes, sweeps, drops, range },
-        Answer::QUIET => Report::Quiet { passes, sweeps, drops, range },
+        Answer::SETTLED => Report::Settled { passes, sweeps, drops, rotations },
+        Answer::STOPPED => Report::Stopped { passes, sweeps, drops, range, rotations },
+        Answer::QUIET => Report::Quiet { passes, sweeps, drops, range, rotations },
         other => unreachable!("the library has no word {other} for a run"),
     }
 }
@@ -165,11 +188,15 @@ mod tests {
     // Each word has its report, and a word that there is not is taken for none of them.
     #[test]
     fn words() {
-        let said =
-            |word| report(Answer { word, passes: 4, range: 2, ..Answer::default() }).to_string();
+        let told =
+            |word| report(Answer { word, passes: 4, range: 2, rotations: 6, ..Answer::default() });
+        let said = |word| told(word).to_string();
         assert_eq!(said(Answer::SETTLED), "settled, passes 4");
         assert_eq!(said(Answer::STOPPED), "stopped, passes 4, range left 2");
         assert_eq!(said(Answer::QUIET), "quiet, passes 4, range left 2");
+        for word in [Answer::SETTLED, Answer::STOPPED, Answer::QUIET] {
+            assert_eq!(told(word).rotations(), 6);
+        }
         for word in [0, 4, u64::MAX] {
             assert!(std::panic::catch_unwind(|| said(word)).is_err());
         }

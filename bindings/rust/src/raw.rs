@@ -27,7 +27,7 @@ pub struct Choice {
 
 /// The number of the layout of [`Answer`], [`Part`] and [`Choice`] that this crate is written for. The
 /// library's own is [`layout`]; it rises whenever one of them changes.
-pub const LAYOUT: u64 = 2;
+pub const LAYOUT: u64 = 3;
 
 const _: () = assert!(size_of::<Part>() == 16 && size_of::<Choice>() == 40);
 const _: () = assert!(size_of::<usize>() == 8, "the library is for 64-bit machines");

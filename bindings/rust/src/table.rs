@@ -14,7 +14,7 @@ use std::fmt;
 ///
 /// let mut readings = [3.0, 4.0]; // 2 stations, 1 pass
 /// let report = Table::new(&mut readings, 2, 1)?.split(&Settings::default())?;
-/// assert_eq!(report, Report::Settled { passes: 0, sweeps: 0, drops: 0 });
+/// assert_eq!(report, Report::Settled { passes: 0, sweeps: 0, drops: 0, rotations: 0 });
 /// assert_eq!(readings, [-5.0, 0.0]);
 /// assert_eq!(Table::new(&mut readings, 2, 2).unwrap_err(), Refusal::Length);
 /// # Ok::<(), Refusal>(())

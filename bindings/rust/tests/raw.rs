@@ -108,6 +108,9 @@ fn every_number_comes_first_and_writes_nothing() {
         let answer = call(&mut l, which);
         assert_eq!((answer.number, answer.word, answer.range), (0, 1, 1));
         assert_eq!((answer.row, answer.column, answer.bad), (0, 0, 0));
+        // 2 x 2 in a sweep over all three values, 2 x 1 in one over two: never the 99 of before
+        let (sweeps, rotations) = (answer.sweeps, answer.rotations);
+        assert!(rotations % 2 == 0 && (2 * sweeps..=4 * sweeps).contains(&rotations) && sweeps > 0);
         assert_ne!(patterns(&l)[..12], before[..12]);
         assert_eq!(patterns(&l)[12..20], before[12..20]);
         let listed = matches!(which, Call::Ordered);
@@ -152,12 +155,12 @@ fn two_numbers_come_after_the_run() {
     let choice = Choice { limit: 3, ..fit().choice };
     // number, rows, columns, readings, and the answer's words from the word on
     let cases = [
-        (12, 2, 2, vec![0.0, 1.0, 0.0, 1.0], [Answer::STOPPED, 3, 3, 0, 2]),
-        (12, 2, 2, vec![0.0; 4], [Answer::QUIET, 3, 3, 0, 2]),
-        (12, 2, 3, vec![-0.0; 6], [Answer::QUIET, 3, 3, 0, 2]),
-        (13, 1, 2, vec![f64::MAX; 2], [1, 0, 0, 0, 1]),
-        (13, 2, 1, vec![f64::MAX; 2], [1, 0, 0, 0, 1]),
-        (13, 3, 2, vec![1.0, 0.0, 0.0, f64::MAX, 0.0, f64::MAX], [1, 1, 0, 1, 1]),
+        (12, 2, 2, vec![0.0, 1.0, 0.0, 1.0], [Answer::STOPPED, 3, 3, 0, 2, 6]),
+        (12, 2, 2, vec![0.0; 4], [Answer::QUIET, 3, 3, 0, 2, 6]),
+        (12, 2, 3, vec![-0.0; 6], [Answer::QUIET, 3, 3, 0, 2, 6]),
+        (13, 1, 2, vec![f64::MAX; 2], [1, 0, 0, 0, 1, 0]),
+        (13, 2, 1, vec![f64::MAX; 2], [1, 0, 0, 0, 1, 0]),
+        (13, 3, 2, vec![1.0, 0.0, 0.0, f64::MAX, 0.0, f64::MAX], [1, 1, 0, 1, 1, 0]),
     ];
     for (number, rows, columns, mut m, counts) in cases {
         let square = |n: usize| (0..n * n).map(|i| f64::from(i / n == i % n)).collect();

@@ -27,26 +27,26 @@ fn rows(f: &Factors, stations: usize, passes: usize) -> (Vec<f64>, Vec<f64>) {
 fn known_tables() {
     let plain = Settings::default();
     let mut a = [3.0, 4.0];
-    let settled = Report::Settled { passes: 0, sweeps: 0, drops: 0 };
+    let settled = Report::Settled { passes: 0, sweeps: 0, drops: 0, rotations: 0 };
     assert_eq!(Table::new(&mut a, 2, 1).unwrap().split(&plain), Ok(settled));
     assert_eq!(bits(&a), bits(&[-5.0, 0.0]));
 
     let mut a = [0.0, 1.0, 0.0, 1.0];
-    let stopped = Report::Stopped { passes: 100, sweeps: 100, drops: 0, range: 2 };
+    let stopped = Report::Stopped { passes: 100, sweeps: 100, drops: 0, range: 2, rotations: 200 };
     assert_eq!(Table::new(&mut a, 2, 2).unwrap().split(&plain), Ok(stopped));
     assert_eq!(stopped.to_string(), "stopped, passes 100, range left 2");
 
     let mut a = [2.0, 0.0, 0.0, 1.0];
     let mut table = Table::new(&mut a, 2, 2).unwrap();
     let (report, factors) = table.split_full(&plain).unwrap();
-    assert_eq!(report, Report::Settled { passes: 1, sweeps: 0, drops: 1 });
+    assert_eq!(report, Report::Settled { passes: 1, sweeps: 0, drops: 1, rotations: 0 });
     assert_eq!(report.to_string(), "settled, passes 1");
     assert_eq!(table.entries(), [-2.0, 0.0, 0.0, 1.0]);
     assert_eq!(factors.station(0), Some(&[-1.0, 0.0][..]));
 
     let mut a = [0.0; 4];
     let short = plain.with_limit(3).unwrap();
-    let quiet = Report::Quiet { passes: 3, sweeps: 3, drops: 0, range: 2 };
+    let quiet = Report::Quiet { passes: 3, sweeps: 3, drops: 0, range: 2, rotations: 6 };
     assert_eq!(Table::new(&mut a, 2, 2).unwrap().split(&short), Ok(quiet));
     assert_eq!(quiet.to_string(), "quiet, passes 3, range left 2");
 }
@@ -63,52 +63,65 @@ fn quiet_or_stopped() {
         assert_eq!((full, bits(&b)), (report, bits(&a)));
         report
     };
-    let quiet = |passes, sweeps, drops, range| Report::Quiet { passes, sweeps, drops, range };
-    let stopped = |passes, sweeps, drops, range| Report::Stopped { passes, sweeps, drops, range };
+    let quiet = |passes, sweeps, drops, range, rotations| Report::Quiet {
+        passes,
+        sweeps,
+        drops,
+        range,
+        rotations,
+    };
+    let stopped = |passes, sweeps, drops, range, rotations| Report::Stopped {
+        passes,
+        sweeps,
+        drops,
+        range,
+        rotations,
+    };
     // zeros, of either sign, in either form: a calm roadway
-    assert_eq!(ended(&[0.0; 4], 2, 2, 0, 50), quiet(0, 0, 0, 2));
-    assert_eq!(ended(&[-0.0; 4], 2, 2, 0, 50), quiet(0, 0, 0, 2));
-    assert_eq!(ended(&[0.0; 10], 2, 5, 100, 50), quiet(100, 100, 0, 2));
-    assert_eq!(ended(&[0.0; 48 * 48], 48, 48, 2, 50), quiet(2, 2, 0, 48));
+    assert_eq!(ended(&[0.0; 4], 2, 2, 0, 50), quiet(0, 0, 0, 2, 0));
+    assert_eq!(ended(&[-0.0; 4], 2, 2, 0, 50), quiet(0, 0, 0, 2, 0));
+    assert_eq!(ended(&[0.0; 10], 2, 5, 100, 50), quiet(100, 100, 0, 2, 200));
+    assert_eq!(ended(&[0.0; 48 * 48], 48, 48, 2, 50), quiet(2, 2, 0, 48, 188));
     // not final: the same table settles at limit 1
-    assert_eq!(ended(&[2.0, 0.0, 0.0, 1.0], 2, 2, 0, 50), quiet(0, 0, 0, 2));
-    let settled = Report::Settled { passes: 1, sweeps: 0, drops: 1 };
+    assert_eq!(ended(&[2.0, 0.0, 0.0, 1.0], 2, 2, 0, 50), quiet(0, 0, 0, 2, 0));
+    let settled = Report::Settled { passes: 1, sweeps: 0, drops: 1, rotations: 0 };
     assert_eq!(ended(&[2.0, 0.0, 0.0, 1.0], 2, 2, 1, 50), settled);
     // one coupling that is not 0, and be it as small as can be
     let first = [1.0, 2.0, 0.0, 0.0, 3.0, 0.0, 0.0, 0.0, 4.0];
     let last = [1.0, 0.0, 0.0, 0.0, 2.0, 3.0, 0.0, 0.0, 4.0];
-    assert_eq!(ended(&first, 3, 3, 0, 50), stopped(0, 0, 0, 3));
-    assert_eq!(ended(&last, 3, 3, 0, 50), stopped(0, 0, 0, 3));
-    assert_eq!(ended(&[1.0, 5e-324, 0.0, 1.0], 2, 2, 0, 50), stopped(0, 0, 0, 2));
-    assert_eq!(ended(&[1.0, 0.0, 0.0, 5e-324, 1.0, 0.0], 2, 3, 0, 50), stopped(0, 0, 0, 2));
+    assert_eq!(ended(&first, 3, 3, 0, 50), stopped(0, 0, 0, 3, 0));
+    assert_eq!(ended(&last, 3, 3, 0, 50), stopped(0, 0, 0, 3, 0));
+    assert_eq!(ended(&[1.0, 5e-324, 0.0, 1.0], 2, 2, 0, 50), stopped(0, 0, 0, 2, 0));
+    assert_eq!(ended(&[1.0, 0.0, 0.0, 5e-324, 1.0, 0.0], 2, 3, 0, 50), stopped(0, 0, 0, 2, 0));
     // NaN is not 0
     let mut large = [1e160, 1e160, 0.0, 1e160];
     let report = Table::new(&mut large, 2, 2).unwrap().split(&Settings::default());
-    assert_eq!(report, Ok(stopped(100, 100, 0, 2)));
+    assert_eq!(report, Ok(stopped(100, 100, 0, 2, 200)));
     assert!(large[1].is_nan());
     // behind the corner nothing is asked
     let behind = [1.0, 0.0, 0.0, 0.0, 2.0, 1e-13, 0.0, 0.0, 4.0];
-    assert_eq!(ended(&behind, 3, 3, 1, 0), quiet(1, 0, 1, 2));
+    assert_eq!(ended(&behind, 3, 3, 1, 0), quiet(1, 0, 1, 2, 0));
 }
 
 // Drawn tables, and for each the walk's passes and a sum over the bits of table, U and V, as the
-// original Rust gives them (by the oracle in beside/).
-const ANSWERS: [(usize, usize, u64, u64); 10] = [
-    (1, 1, 0, 0x3159F754ACA15057),
-    (1, 7, 0, 0x014C4C0133E42B9D),
-    (7, 1, 0, 0x881D90FA72676BAC),
-    (2, 2, 2, 0xA0D61E8BEA8827CC),
-    (3, 5, 5, 0xD8E8EA386B72070B),
-    (5, 3, 8, 0x959C80C81842B9B5),
-    (8, 8, 21, 0x010B05660EF4375E),
-    (16, 48, 46, 0xF251AC3E5A1E9DE9),
-    (48, 17, 52, 0x3AC4289425D94029),
-    (48, 48, 128, 0xE5CEE60EB3644596),
+// original Rust gives them (by the oracle in beside/); between the two the rotations of these passes by
+// the rule: 2 x (r - 1) for a sweep over range r.
+const ANSWERS: [(usize, usize, u64, u64, u64); 10] = [
+    (1, 1, 0, 0, 0x3159F754ACA15057),
+    (1, 7, 0, 0, 0x014C4C0133E42B9D),
+    (7, 1, 0, 0, 0x881D90FA72676BAC),
+    (2, 2, 2, 2, 0xA0D61E8BEA8827CC),
+    (3, 5, 5, 10, 0xD8E8EA386B72070B),
+    (5, 3, 8, 22, 0x959C80C81842B9B5),
+    (8, 8, 21, 142, 0x010B05660EF4375E),
+    (16, 48, 46, 552, 0xF251AC3E5A1E9DE9),
+    (48, 17, 52, 710, 0x3AC4289425D94029),
+    (48, 48, 128, 4312, 0xE5CEE60EB3644596),
 ];
 
 #[test]
 fn plain_is_accumulating_is_the_original() {
-    for (i, (stations, passes, walked, sum)) in ANSWERS.into_iter().enumerate() {
+    for (i, (stations, passes, walked, turned, sum)) in ANSWERS.into_iter().enumerate() {
         let was = drawn(i as u64, stations * passes);
         let (mut a, mut b) = (was.clone(), was.clone());
         let report = Table::new(&mut a, stations, passes).unwrap().split(&Settings::default());
@@ -116,6 +129,7 @@ fn plain_is_accumulating_is_the_original() {
         let (full, factors) = table.split_full(&Settings::default()).unwrap();
         assert_eq!(Ok(full), report);
         assert!(matches!(report, Ok(Report::Settled { passes, .. }) if passes == walked));
+        assert_eq!(full.rotations(), turned);
         let values: Vec<f64> = table.values().collect();
         assert_eq!(values.len(), stations.min(passes));
         assert!((0..values.len()).all(|k| values[k] == a[k * passes + k]));
@@ -125,6 +139,67 @@ fn plain_is_accumulating_is_the_original() {
         let step = |sum: u64, word: u64| (sum ^ word).wrapping_mul(0x100000001B3);
         assert_eq!(all.fold(0xCBF29CE484222325, step), sum);
     }
+}
+
+// From one limit to the next, with the credit 0, the run makes one pass more, until it settles: a sweep
+// over range r adds 2 x (r - 1) rotations, a drop none. The three splits count alike.
+#[test]
+fn rotations_pass_by_pass() {
+    let (mut all_sweeps, mut all_drops) = (0, 0);
+    for (i, (stations, passes)) in
+        [(2, 2), (5, 3), (3, 5), (8, 8), (13, 16)].into_iter().enumerate()
+    {
+        // some readings are 0: a rotation that takes no root counts, too
+        let mut was = drawn(i as u64, stations * passes);
+        was.iter_mut().filter(|x| **x > 5.0).for_each(|x| *x = 0.0);
+        let (mut range, mut sweeps, mut rotations) = (stations.min(passes) as u64, 0, 0);
+        for limit in 0..=60 {
+            let settings = Settings::default().with_credit(0).unwrap().with_limit(limit).unwrap();
+            let (mut a, mut b, mut c) = (was.clone(), was.clone(), was.clone());
+            let report = Table::new(&mut a, stations, passes).unwrap().split(&settings).unwrap();
+            let (walked, swept, dropped, left) = match report {
+                Report::Settled { passes, sweeps, drops, .. } => (passes, sweeps, drops, 1),
+                Report::Stopped { passes, sweeps, drops, range, .. }
+                | Report::Quiet { passes, sweeps, drops, range, .. } => {
+                    (passes, sweeps, drops, range)
+                }
+            };
+            if swept > sweeps {
+                assert_eq!((swept, left), (sweeps + 1, range));
+                rotations += 2 * (range - 1);
+            }
+            assert_eq!(report.rotations(), rotations);
+            let full = Table::new(&mut b, stations, passes).unwrap().split_full(&settings);
+            assert_eq!(full.unwrap().0, report);
+            let mut values = vec![0.0; stations.min(passes)];
+            let mut table = Table::new(&mut c, stations, passes).unwrap();
+            let ordered = match table.split_in_order(&mut values, &settings) {
+                Ok((report, _)) => report,
+                Err(unordered) => unordered.run.unwrap().0,
+            };
+            assert_eq!(ordered, report);
+            (range, sweeps) = (left, swept);
+            if walked < limit {
+                (all_sweeps, all_drops) = (all_sweeps + swept, all_drops + dropped);
+                break;
+            }
+        }
+    }
+    assert!(all_sweeps > 40 && all_drops > 20, "{all_sweeps} sweeps, {all_drops} drops");
+}
+
+// Zeros never drop: every sweep is over the whole diagonal. One value is never swept.
+#[test]
+fn rotations_of_a_calm_roadway() {
+    for c in 1..=MOST {
+        let settings = Settings::default().with_limit(7).unwrap();
+        let mut zeros = vec![0.0; c * c];
+        let report = Table::new(&mut zeros, c, c).unwrap().split(&settings).unwrap();
+        assert_eq!(report.rotations(), 2 * (c as u64 - 1) * 7);
+    }
+    let most = Settings::default().with_limit(100_000).unwrap().with_credit(1_000).unwrap();
+    let report = Table::new(&mut [0.0; 9], 3, 3).unwrap().split(&most).unwrap();
+    assert_eq!(report.rotations(), 400_000);
 }
 
 // What stood at position i of the diagonal goes to k, the number of positions that come before i: those
@@ -204,9 +279,9 @@ fn not_in_order() {
     }
     // after it: what the split with U and V leaves and hands out
     let short = plain.with_limit(3).unwrap();
-    let stopped = Report::Stopped { passes: 3, sweeps: 3, drops: 0, range: 2 };
-    let quiet = Report::Quiet { passes: 3, sweeps: 3, drops: 0, range: 2 };
-    let settled = Report::Settled { passes: 0, sweeps: 0, drops: 0 };
+    let stopped = Report::Stopped { passes: 3, sweeps: 3, drops: 0, range: 2, rotations: 6 };
+    let quiet = Report::Quiet { passes: 3, sweeps: 3, drops: 0, range: 2, rotations: 6 };
+    let settled = Report::Settled { passes: 0, sweeps: 0, drops: 0, rotations: 0 };
     let cases = [
         (vec![0.0, 1.0, 0.0, 1.0], 2, 2, short, Refusal::NotSettled, stopped),
         (vec![0.0; 4], 2, 2, short, Refusal::NotSettled, quiet),

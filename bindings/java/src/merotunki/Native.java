@@ -9,11 +9,11 @@ final class Native {
 
     /** The words of an answer, in the order of merotunki.h's struct: the one list of them in Java. */
     enum Answer {
-        NUMBER, ROW, COLUMN, BAD, WORD, PASSES, SWEEPS, DROPS, RANGE;
+        NUMBER, ROW, COLUMN, BAD, WORD, PASSES, SWEEPS, DROPS, RANGE, ROTATIONS;
 
         private static final int COUNT = values().length;
 
-        /** This word of an answer. All that the library answers fits an int: bad readings are at most 48 x 48. */
+        /** This word of an answer. All that the library answers fits an int: rotations are at most 13,724,000. */
         int in(long[] answer) {
             return (int) answer[ordinal()];
         }

@@ -51,6 +51,12 @@ public final class Report {
     public final int drops;
     /** How much of the diagonal is still live: 1 where settled, above 1 where stopped or quiet. */
     public final int range;
+    /**
+     * Rotations computed by the sweeps: 2 x (r - 1) by a sweep over a range of r values, none by a drop. Battery use
+     * follows them rather than the passes. One counts once, with U and V or without. At most 2 x (c - 1) x sweeps, c
+     * being the smaller of the survey's stations and passes; never above 13,724,000.
+     */
+    public final int rotations;
 
     /** The report of an answer that has a word. */
     Report(long[] answer) {
@@ -59,6 +65,7 @@ public final class Report {
         sweeps = Native.Answer.SWEEPS.in(answer);
         drops = Native.Answer.DROPS.in(answer);
         range = Native.Answer.RANGE.in(answer);
+        rotations = Native.Answer.ROTATIONS.in(answer);
     }
 
     /** {@code settled, passes 6}; {@code stopped, passes 100, range left 3}; {@code quiet, passes 3, range left 2}. */
