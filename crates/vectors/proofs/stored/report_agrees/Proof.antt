@@ -5,10 +5,10 @@ use Rattle.vectors.proofs.stored.report_agrees.Statement.{statement}
 use Rattle.vectors.proofs.stored.report_agrees.Tie as tie
 
 abbrev Inv-loop : tie.InvT-loop
-Inv-loop answer words i₀ i = i ≤ 9
+Inv-loop answer words i₀ i = i ≤ 10
 
 abbrev μ-loop : tie.MeasureT-loop
-μ-loop answer words i₀ i = 9 - i
+μ-loop answer words i₀ i = 10 - i
 
 pub report-agrees-spec : {M : Type 1} → statement M
 report-agrees-spec =
