@@ -113,7 +113,7 @@ fn first_rotation(b: &[f64], stride: usize, upper: bool, k: usize, tl: usize, bl
 }
 
 // A sweep over the live corner whose last 2 x 2 starts at (interior, interior). The answer is how many
-// rotations it computed: the first, two for each step and the last.
+// rotations it computed: two for each step, the first and the last.
 fn givens_iteration(
     b: &mut [f64],
     u: &mut [f64],
@@ -134,7 +134,7 @@ fn givens_iteration(
     turn(b, u, v, z, g, !upper, 0, 0, 2);
     chase(b, u, v, z, upper, interior);
     push(b, u, v, z, upper, interior, interior, 2);
-    2 * (interior + 1)
+    2 * interior + 2
 }
 
 // Whether the coupling is negligible beside its diagonal neighbours.

@@ -9,7 +9,8 @@ use lib.ListN.{length, length-append}
 use lib.Ieee.{Float, Format}
 use Rattle.method.specs.Work.{Work, Shape}
 use Rattle.method.specs.Repeated.{repeated-none, repeated-suc, carriedOut, carriedOut-append}
-use Rattle.method.specs.Chase.{pushed, steps, swept, firstRotation}
+use Rattle.method.specs.Rotation.{Rotation}
+use Rattle.method.specs.Chase.{turned, pushed, steps, swept, firstRotation}
 use Rattle.method.specs.Moves.{move, own, shifted, rotationBy, carried, stepMoves, stepsMoves, sweepMoves}
 use Rattle.method.specs.Moves.{sweepRotations}
 
@@ -37,8 +38,10 @@ module _ (f : Format) (z : Shape) (upper : Bool) where
   unfolding swept sweepMoves carriedOut
   swept-moves k w =
       let begun = carried f z (move (not upper) 0 0 2 (shifted k)) w in
-      rw (first-is f (z .stride) upper k (w .matrix), carriedOut-append (carried f z) (stepsMoves upper k) _ begun)
-      (ap (pushed f z upper k k 2) (steps-are k begun))
+      ap (λ (g : Rotation). pushed f z upper k k 2 (steps f z upper k (turned f z g (not upper) 0 0 2 w)))
+      (first-is f (z .stride) upper k (w .matrix))
+      ∙ ap (pushed f z upper k k 2) (steps-are k begun)
+      ∙ sym (carriedOut-append (carried f z) (stepsMoves upper k) (move upper k k 2 own ∷ []) begun)
 
 -- ---- how many they are
 
@@ -48,8 +51,8 @@ stepsMoves-length upper zero = refl
 stepsMoves-length upper (suc n) =
     length-append (stepsMoves upper n) (stepMoves upper n) ∙ omega (arith, stepsMoves-length upper n)
 
--- the first, two for each step, and the last
-pub sweep-rotations : (upper : Bool) (k : ℕ) → sweepRotations upper k ≡ 2 * (k + 1)
+-- two for each step, the first and the last
+pub sweep-rotations : (upper : Bool) (k : ℕ) → sweepRotations upper k ≡ 2 * k + 2
 unfolding sweepMoves
 sweep-rotations upper k =
     omega (arith, length-append (stepsMoves upper k) (move upper k k 2 own ∷ []), stepsMoves-length upper k)

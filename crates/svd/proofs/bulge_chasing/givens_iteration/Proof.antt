@@ -29,13 +29,13 @@ push-requires c κs =
     let pre = c .before .before .before .before .before .before .before .before .before .before .before .before .before .before .before .before .before .before .before .before .before .before .before .before .before .before .before .before .pre in
     (lit≤ tt, pre .0, pre .0, lending-kept (record { matrix = kept .0 ∙ turned .0; u = kept .1 .0 ∙ turned .1 .0; v = kept .1 .1 .0 ∙ turned .1 .1 .0 }) (pre .1))
 
-add-result : tie.Need-add-result
-add-result c =
+mul-result : tie.Need-mul-result
+mul-result c =
     let pre = c .before .before .before .before .before .before .before .before .before .before .before .before .before .before .before .before .before .before .before .before .before .before .before .before .before .before .before .before .before .before .before .before .before .before .before .pre in
     omega (arith, pre .0 .in-rows, pre .1 .table .rows-few)
 
-mul-result : tie.Need-mul-result
-mul-result c =
+add-result : tie.Need-add-result
+add-result c =
     let pre = c .before .before .before .before .before .before .before .before .before .before .before .before .before .before .before .before .before .before .before .before .before .before .before .before .before .before .before .before .before .before .before .before .before .before .before .pre in
     omega (arith, pre .0 .in-rows, pre .1 .table .rows-few)
 
@@ -49,4 +49,4 @@ returns c =
     (swept-is binary64 (sizes (at-start .args .z)) (at-start .args .upper) (at-start .args .interior) _ _ _ _ _ (at-first-rotation .first-rotation .ensures) (at-turn .turn .ensures) (at-chase .chase .ensures) (at-push .push .ensures), sym (sweep-rotations (at-start .args .upper) (at-start .args .interior)))
 
 pub givens-iteration-spec : {M : Type 1} → statement M
-givens-iteration-spec = tie.close (tie.spec first-rotation-requires (λ c κs. search needs) chase-requires push-requires add-result mul-result (λ c. c .before .before .before .before .before .before .push .kept .0 ∙ c .before .before .before .before .before .before .before .before .before .before .before .before .before .before .before .before .chase .kept .0 ∙ c .before .before .before .before .before .before .before .before .before .before .before .before .before .before .before .before .before .before .before .before .before .before .before .before .before .before .turn .kept .0) (λ c. c .before .before .before .before .before .before .push .kept .1 .0 ∙ c .before .before .before .before .before .before .before .before .before .before .before .before .before .before .before .before .chase .kept .1 .0 ∙ c .before .before .before .before .before .before .before .before .before .before .before .before .before .before .before .before .before .before .before .before .before .before .before .before .before .before .turn .kept .1 .0) (λ c. c .before .before .before .before .before .before .push .kept .1 .1 .0 ∙ c .before .before .before .before .before .before .before .before .before .before .before .before .before .before .before .before .chase .kept .1 .1 .0 ∙ c .before .before .before .before .before .before .before .before .before .before .before .before .before .before .before .before .before .before .before .before .before .before .before .before .before .before .turn .kept .1 .1 .0) returns)
+givens-iteration-spec = tie.close (tie.spec first-rotation-requires (λ c κs. search needs) chase-requires push-requires mul-result add-result (λ c. c .before .before .before .before .before .before .push .kept .0 ∙ c .before .before .before .before .before .before .before .before .before .before .before .before .before .before .before .before .chase .kept .0 ∙ c .before .before .before .before .before .before .before .before .before .before .before .before .before .before .before .before .before .before .before .before .before .before .before .before .before .before .turn .kept .0) (λ c. c .before .before .before .before .before .before .push .kept .1 .0 ∙ c .before .before .before .before .before .before .before .before .before .before .before .before .before .before .before .before .chase .kept .1 .0 ∙ c .before .before .before .before .before .before .before .before .before .before .before .before .before .before .before .before .before .before .before .before .before .before .before .before .before .before .turn .kept .1 .0) (λ c. c .before .before .before .before .before .before .push .kept .1 .1 .0 ∙ c .before .before .before .before .before .before .before .before .before .before .before .before .before .before .before .before .chase .kept .1 .1 .0 ∙ c .before .before .before .before .before .before .before .before .before .before .before .before .before .before .before .before .before .before .before .before .before .before .before .before .before .before .turn .kept .1 .1 .0) returns)
