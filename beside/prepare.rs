@@ -1,5 +1,5 @@
 //! What has to be changed in the original before it runs here: two constants that become settings
-//! of a run, counters that record the walk, and what leans on files that are missing.
+//! of a run, counters that record the walk and its rotations, and what leans on files that are missing.
 //! Every change names the whole lines that it expects; a source that reads otherwise is refused.
 
 /// One change of whole lines.
@@ -39,7 +39,12 @@ pub const FILES: &[File] = &[
     },
     File {
         path: "francis/givens.rs",
-        changes: &[],
+        changes: &[Change::Replace {
+            times: 1,
+            text: "pub fn implicit_givens_rotation(a: f64, b: f64) -> (f64, f64, f64) {",
+            by: "pub fn implicit_givens_rotation(a: f64, b: f64) -> (f64, f64, f64) {
+    crate::record::rotation(a);",
+        }],
     },
     File {
         path: "francis/primitives.rs",
@@ -78,7 +83,7 @@ pub const FILES: &[File] = &[
         }
     }
 }",
-                by: "            crate::record::sweep();
+                by: "            crate::record::sweep(range);
             ugivens_iteration(b, inter, stride, tl, bl);
         }
     }
@@ -91,7 +96,7 @@ pub const FILES: &[File] = &[
         }
     }
 }",
-                by: "            crate::record::sweep();
+                by: "            crate::record::sweep(range);
             lgivens_iteration(b, inter, stride, tl, bl);
         }
     }
@@ -111,7 +116,7 @@ pub const FILES: &[File] = &[
         }
     }
 }",
-                by: "            crate::record::sweep();
+                by: "            crate::record::sweep(range);
             full_ugivens_iteration(b, u, v, inter, rows, cols, stride, tl, bl);
         }
     }
@@ -125,7 +130,7 @@ pub const FILES: &[File] = &[
         }
     }
 }",
-                by: "            crate::record::sweep();
+                by: "            crate::record::sweep(range);
             full_lgivens_iteration(b, u, v, inter, rows, cols, stride, tl, bl);
         }
     }

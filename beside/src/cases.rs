@@ -1,9 +1,9 @@
 //! A fixed list of small cases: some chosen for a rule that they show, then drawn ones that mix
 //! shapes, readings, settings and what U and V hold. Short enough to be followed step by step.
 
-use crate::Settings;
 use crate::reduction::matrix::svd::primitives::identity_flat;
 use crate::text::Case;
+use crate::{Settings, rotations};
 
 /// No case of the list makes more passes.
 pub const MOST_PASSES: u64 = 40;
@@ -12,6 +12,8 @@ pub const MOST_PASSES: u64 = 40;
 pub fn all() -> Vec<Case> {
     let mut cases = chosen();
     cases.extend(quiet());
+    let showing = |(rows, cols, table)| case(rows, cols, table, Settings::DEFAULT);
+    cases.extend(rotations::SHOWING.map(showing));
     cases.extend(drawn());
     cases
 }

@@ -14,6 +14,7 @@ pub mod quiet;
 pub mod readings;
 mod record;
 pub mod refusals;
+pub mod rotations;
 pub mod run;
 pub mod survey;
 pub mod text;
@@ -72,6 +73,17 @@ impl Settings {
     };
 }
 
+/// What is recorded of a walk besides its report.
+#[derive(Clone, Copy, Debug, Default, PartialEq, Eq)]
+pub struct Walked {
+    /// How many of the rotations are of (0, b), which take no root.
+    pub zeros: u64,
+    /// The range at each sweep, all of them added up.
+    pub ranges: u64,
+    /// The range at the last sweep, 0 where there was none.
+    pub last: u64,
+}
+
 /// The plain call of the original, or with U and V the accumulating one, in place.
 pub fn run(
     rows: usize,
@@ -80,6 +92,17 @@ pub fn run(
     uv: Option<(&mut [f64], &mut [f64])>,
     settings: &Settings,
 ) -> Report {
+    walked(rows, cols, matrix, uv, settings).0
+}
+
+/// The same, and what else is recorded of its walk.
+pub fn walked(
+    rows: usize,
+    cols: usize,
+    matrix: &mut [f64],
+    uv: Option<(&mut [f64], &mut [f64])>,
+    settings: &Settings,
+) -> (Report, Walked) {
     assert!(rows > 0 && cols > 0, "rows and columns from 1");
     assert_eq!(matrix.len(), rows * cols, "length of the matrix");
     let &Settings {
@@ -113,7 +136,7 @@ pub fn run(
         "a walk exactly when there is more than one value"
     );
     let range = record.left.unwrap_or(1);
-    Report {
+    let report = Report {
         number: 0,
         row: 0,
         column: 0,
@@ -123,5 +146,12 @@ pub fn run(
         sweeps: record.sweeps,
         drops: record.drops,
         range: range as u64,
-    }
+        rotations: record.rotations,
+    };
+    let walked = Walked {
+        zeros: record.zeros,
+        ranges: record.ranges,
+        last: record.last,
+    };
+    (report, walked)
 }

@@ -10,6 +10,12 @@ pub struct Record {
     pub passes: u64,
     pub sweeps: u64,
     pub drops: u64,
+    /// Calls of `implicit_givens_rotation`, and those of them whose first argument is 0.
+    pub rotations: u64,
+    pub zeros: u64,
+    /// The range at each sweep, all of them added up, and that at the last one.
+    pub ranges: u64,
+    pub last: u64,
     /// The range when the walk ended; none where no walk was made.
     pub left: Option<usize>,
 }
@@ -22,6 +28,10 @@ impl Record {
             passes: 0,
             sweeps: 0,
             drops: 0,
+            rotations: 0,
+            zeros: 0,
+            ranges: 0,
+            last: 0,
             left: None,
         }
     }
@@ -63,8 +73,21 @@ pub fn pass() {
     change(|record| record.passes += 1);
 }
 
-pub fn sweep() {
-    change(|record| record.sweeps += 1);
+/// A sweep over the range begins. Its rotations count for themselves.
+pub fn sweep(range: usize) {
+    change(|record| {
+        record.sweeps += 1;
+        record.ranges += range as u64;
+        record.last = range as u64;
+    });
+}
+
+/// A rotation is computed, whatever it then turns: that of (a, b).
+pub fn rotation(a: f64) {
+    change(|record| {
+        record.rotations += 1;
+        record.zeros += u64::from(a == 0.0);
+    });
 }
 
 pub fn drop() {

@@ -5,6 +5,7 @@
 
 use crate::Settings;
 use crate::readings::every_choice;
+use crate::rotations::INFINITE;
 use crate::run::{Call, Run, Start, unwritten};
 
 /// A change to a run.
@@ -300,7 +301,8 @@ fn bad_in_long_tables() -> Vec<(u64, Run)> {
 /// entries of U or of V are alike, so that every column shows where it went. The floor is the least.
 fn after_the_run() -> Vec<(u64, Run)> {
     let (most, least) = (f64::MAX, f64::from_bits(1));
-    let tables: [(u64, usize, usize, &[f64]); 18] = [
+    let [upper, lower] = INFINITE;
+    let tables: [(u64, usize, usize, &[f64]); 20] = [
         // Not settled. The last has NaNs on its diagonal, and 12 counts.
         (12, 2, 2, &[0.0; 4]),
         (12, 2, 2, &[0.0, 1.0, 0.0, 1.0]),
@@ -312,6 +314,9 @@ fn after_the_run() -> Vec<(u64, Run)> {
         (13, 3, 2, &[1.0, 0.0, 0.0, most, 0.0, most]),
         (13, 2, 3, &[most, 0.0, most, 0.0, -2.0, 0.0]),
         (13, 2, 1, &[least, 0.0]),
+        // An infinite value after rotations, in both forms.
+        (13, upper.0, upper.1, upper.2),
+        (13, lower.0, lower.1, lower.2),
         // One value, below zero, 0 and -0.
         (0, 1, 1, &[-3.0]),
         (0, 1, 1, &[0.0]),

@@ -3,7 +3,7 @@
 
 use crate::readings::{Bad, bad};
 use crate::text::{hex, hexes};
-use crate::{Report, Settings, order, run};
+use crate::{Report, Settings, Walked, order, walked};
 use std::fmt::Write;
 
 /// The library's calls. A run of one of them can be made by those before it, too: they are lent less.
@@ -188,15 +188,25 @@ impl Run {
 
     /// The reply that the call must get.
     pub fn reply(&self, call: Call) -> Reply {
+        self.walked(call).0
+    }
+
+    /// The same, and what else is recorded of the original's walk; nothing where the call is refused
+    /// before its run.
+    pub fn walked(&self, call: Call) -> (Reply, Walked) {
         if call == Call::Ordered {
-            return self.ordered(&self.reply(Call::Accumulating));
+            let (kept, record) = self.walked(Call::Accumulating);
+            return (self.ordered(&kept), record);
         }
-        self.refused(call).unwrap_or_else(|| {
-            let mut reply = self.lent(call);
-            let uv = call.keeps().then_some((&mut reply.u[..], &mut reply.v[..]));
-            reply.report = run(self.rows, self.cols, &mut reply.matrix, uv, &self.settings);
-            reply
-        })
+        if let Some(refused) = self.refused(call) {
+            return (refused, Walked::default());
+        }
+        let mut reply = self.lent(call);
+        let uv = call.keeps().then_some((&mut reply.u[..], &mut reply.v[..]));
+        let record;
+        (reply.report, record) =
+            walked(self.rows, self.cols, &mut reply.matrix, uv, &self.settings);
+        (reply, record)
     }
 
     /// The reply that the ordered call must get, from the one that the accumulating call gets.

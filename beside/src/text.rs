@@ -170,8 +170,8 @@ impl fmt::Display for Report {
         };
         write!(
             f,
-            "{word} {} {} {} {}",
-            self.passes, self.sweeps, self.drops, self.range
+            "{word} {} {} {} {} {}",
+            self.passes, self.sweeps, self.drops, self.range, self.rotations
         )
     }
 }

@@ -4,9 +4,11 @@
 use crate::cases::{Draw, READINGS};
 use crate::kinds::{Sizes, drawn as drawn_run};
 use crate::readings::{every_choice, spoil};
-use crate::run::Run;
+use crate::rotations::{self, INFINITE, SHOWING, Turned};
+use crate::run::{Call, Run};
 use crate::survey::split;
 use crate::text::patterns;
+use crate::{Settings, cases};
 
 /// A survey as it is to be written: id, rows, columns, readings.
 type Survey = (usize, usize, usize, Vec<f64>);
@@ -131,6 +133,17 @@ fn quiet(texts: &mut Vec<Vec<u8>>) {
         of(4, [-0.0; 4]),
         of(5, [2.0, 0.0, 0.0, 1.0]),
     ]));
+}
+
+/// Surveys with rotations over several ranges, of (0, b) too, and with a value that is infinite.
+fn turned(texts: &mut Vec<Vec<u8>>) {
+    let tables = SHOWING.into_iter().chain(INFINITE);
+    let surveys: Vec<Survey> = (50..)
+        .zip(tables)
+        .map(|(id, (rows, cols, readings))| (id, rows, cols, readings.to_vec()))
+        .collect();
+    texts.extend(surveys.chunks(1).map(written));
+    texts.push(written(&surveys));
 }
 
 /// Readings that are infinite or NaN: in every choice of a 2 x 3's places, in large tables, and in one
@@ -313,6 +326,7 @@ pub fn all() -> Vec<Vec<u8>> {
     let mut texts = vec![Vec::new(), b"\n".to_vec(), b"\n\n".to_vec(), b"\0".to_vec()];
     well_formed(&mut texts);
     quiet(&mut texts);
+    turned(&mut texts);
     bad_readings(&mut texts);
     cut(&mut texts);
     bytes_wrong(&mut texts);
@@ -336,10 +350,32 @@ fn store(out: &mut Vec<u8>, mark: char, text: &[u8], answer: &[u8]) {
     out.extend(answer);
 }
 
+/// Answers with another number of rotations, such as a slip would tell; with none, as answers had it before they had the
+/// count; and with the count before the range. The last table is of zeros: it makes rotations of (0, b) alone.
+fn counts_wrong(wrong: &mut Vec<(Vec<u8>, Vec<u8>)>) {
+    let zeros: rotations::Table = (2, 2, &[0.0; 4]);
+    for (rows, cols, readings) in SHOWING.into_iter().chain([zeros]) {
+        let run = Run::from(cases::case(rows, cols, readings, Settings::DEFAULT));
+        let (reply, walked) = run.walked(Call::Plain);
+        let turned = Turned::of(&run, &reply, walked).expect("a run");
+        let text = written(&[(7, rows, cols, readings.to_vec())]);
+        let right = split(&text);
+        let (range, many) = (reply.report.range, turned.many());
+        let slips = rotations::slips(&turned);
+        let slips = slips.iter().map(|(_, other)| format!(" {range} {other}\n"));
+        let forms = [format!(" {range}\n"), format!(" {many} {range}\n")];
+        for end in slips.chain(forms) {
+            let other = right.replacen(&format!(" {range} {many}\n"), &end, 1);
+            wrong.push((text.clone(), other.into()));
+        }
+    }
+}
+
 /// Texts with answers that are wrong on purpose, each a right one with one change: each byte of an answer and of one that
-/// refuses, row and column exchanged, and both as one index; another word, `quiet` for `stopped` and the like; the last
-/// byte of a long one, an answer with a byte less or more at either end or with none, each byte of a text that counts,
-/// and the place where the text ends and the answer begins.
+/// refuses, row and column exchanged, and both as one index; another word, `quiet` for `stopped` and the like; the
+/// numbers of rotations that a slip would tell, none of them printed, and the count before the range; the last byte of a
+/// long one, an answer with a byte less or more at either end or with none, each byte of a text that counts, and the
+/// place where the text ends and the answer begins.
 fn wrong() -> Vec<(Vec<u8>, Vec<u8>)> {
     let text = EXAMPLE.as_bytes().to_vec();
     let answer = split(&text).into_bytes();
@@ -366,6 +402,7 @@ fn wrong() -> Vec<(Vec<u8>, Vec<u8>)> {
             rows.push((text.into(), right.replacen(word, other, 1).into()));
         }
     }
+    counts_wrong(&mut rows);
     let long = written(&[drawn(&mut Draw(0x1096), 300, 2, 48, 2)]);
     let end = split(&long).into_bytes();
     rows.push((long, changed(&end, end.len() - 1)));

@@ -3,6 +3,7 @@
 
 use crate::cases::{self, Draw};
 use crate::kinds::{Sizes, drawn, table};
+use crate::rotations::{self, Turned};
 use crate::run::{Call, Reply, Run, Start, alike, untouched, unwritten};
 use crate::text::Case;
 use crate::{Report, Settings, pairs, refusals};
@@ -357,6 +358,26 @@ const WORDS_WRONG: [(usize, usize, &[f64], usize); 4] = [
     ),
 ];
 
+/// Runs with a number of rotations that a slip would tell: of the plain and the accumulating call, and of
+/// the ordered one, where the values are in order and where it answers 13 and 12.
+fn counts_wrong(wrong: &mut Vec<(Run, Told)>) {
+    let zeros: rotations::Table = (3, 3, &[0.0; 9]);
+    let tables = rotations::SHOWING.into_iter().chain(rotations::INFINITE);
+    for (rows, cols, matrix) in tables.chain([zeros]) {
+        let run = Run::from(cases::case(rows, cols, matrix, Settings::DEFAULT));
+        let (kept, walked) = run.walked(Call::Accumulating);
+        let turned = Turned::of(&run, &kept, walked).expect("a run");
+        for (_, many) in rotations::slips(&turned) {
+            let mut first = told(&run);
+            let mut ordered = first.clone();
+            first.first.report.rotations = many;
+            let reply = ordered.ordered.as_mut().expect("the ordered call's");
+            reply.report.rotations = many;
+            wrong.extend([(run.clone(), first), (run.clone(), ordered)]);
+        }
+    }
+}
+
 /// Runs that are not those of their replies: one thing that is handed to the call is another, each once.
 fn runs_wrong(wrong: &mut Vec<(Run, Told)>) {
     type Change = fn(&mut Run);
@@ -428,6 +449,7 @@ fn runs_wrong(wrong: &mut Vec<(Run, Told)>) {
 pub fn wrong() -> Vec<(Run, Told)> {
     let mut wrong = Vec::new();
     replies_wrong(&mut wrong);
+    counts_wrong(&mut wrong);
     runs_wrong(&mut wrong);
     wrong
 }

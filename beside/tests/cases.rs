@@ -67,6 +67,9 @@ fn counts() {
             _ => case.settings.limit as u64 + case.settings.credit as u64 * (card - 2),
         };
         assert!(report.passes <= bound, "{case}");
+        let turns = 2 * (card - 1) * report.sweeps;
+        assert!(report.rotations <= turns, "{case}");
+        assert!(report.drops > 0 || report.rotations == turns, "{case}");
     }
 }
 

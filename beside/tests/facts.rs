@@ -85,28 +85,28 @@ fn singulars() {
 
 #[test]
 fn table() {
-    expect(&answer(1, 1, &[-3.0], LOW), "settled 0 0 0 1", &[-3.0]);
+    expect(&answer(1, 1, &[-3.0], LOW), "settled 0 0 0 1 0", &[-3.0]);
     expect(
         &answer(1, 2, &[3.0, 4.0], LOW),
-        "settled 0 0 0 1",
+        "settled 0 0 0 1 0",
         &[-5.0, 0.0],
     );
     let diagonal = answer(2, 2, &[2.0, 0.0, 0.0, 1.0], LOW);
-    expect(&diagonal, "settled 1 0 1 1", &[-2.0, 0.0, 0.0, 1.0]);
+    expect(&diagonal, "settled 1 0 1 1 0", &[-2.0, 0.0, 0.0, 1.0]);
     assert_eq!(
         hexes(&diagonal.uv.unwrap().0),
         hexes(&[-1.0, 0.0, 0.0, 1.0])
     );
     let zeros = answer(2, 2, &[0.0; 4], Settings { limit: 3, ..LOW });
-    expect(&zeros, "quiet 3 3 0 2", &[0.0; 4]);
+    expect(&zeros, "quiet 3 3 0 2 6", &[0.0; 4]);
 }
 
 #[test]
 fn limit_none() {
     let none = Settings { limit: 0, ..LOW };
     let diagonal = answer(2, 2, &[2.0, 0.0, 0.0, 1.0], none);
-    expect(&diagonal, "quiet 0 0 0 2", &[-2.0, 0.0, 0.0, 1.0]);
-    expect(&answer(2, 2, &[0.0; 4], none), "quiet 0 0 0 2", &[0.0; 4]);
+    expect(&diagonal, "quiet 0 0 0 2 0", &[-2.0, 0.0, 0.0, 1.0]);
+    expect(&answer(2, 2, &[0.0; 4], none), "quiet 0 0 0 2 0", &[0.0; 4]);
 }
 
 #[test]
@@ -124,12 +124,16 @@ fn floor_decides() {
         4.0, 0.0, 0.0, 0.0, 4.0, 4.0, 0.0, 3.0, 0.0, 0.0, 0.0, 0.0, 4.0, 4.0, 0.0, 3.0,
     ];
     let high = answer(4, 4, &matrix, DEFAULT).report;
-    assert_eq!(high.to_string(), "stopped 100 100 0 4");
+    assert_eq!(high.to_string(), "stopped 100 100 0 4 600");
     let low = answer(4, 4, &matrix, LOW).report;
     assert_eq!((low.passes, low.range), (4, 1));
     let tail = [0.0, 1e-22];
-    expect(&answer(1, 2, &tail, DEFAULT), "settled 0 0 0 1", &tail);
-    expect(&answer(1, 2, &tail, LOW), "settled 0 0 0 1", &[-1e-22, 0.0]);
+    expect(&answer(1, 2, &tail, DEFAULT), "settled 0 0 0 1 0", &tail);
+    expect(
+        &answer(1, 2, &tail, LOW),
+        "settled 0 0 0 1 0",
+        &[-1e-22, 0.0],
+    );
 }
 
 #[test]
@@ -151,7 +155,7 @@ fn survey_of_the_rules() {
     let answer = Case::read(line).unwrap().answer().unwrap();
     assert_eq!(
         answer.to_string(),
-        "settled 0 0 0 1 | C014000000000000 0000000000000000 | - | -"
+        "settled 0 0 0 1 0 | C014000000000000 0000000000000000 | - | -"
     );
 }
 
@@ -211,9 +215,9 @@ mod differences {
     #[test]
     fn no_split_of_huge_readings() {
         let most = answer(1, 2, &[f64::MAX; 2], DEFAULT);
-        expect(&most, "settled 0 0 0 1", &[f64::NEG_INFINITY, 0.0]);
+        expect(&most, "settled 0 0 0 1 0", &[f64::NEG_INFINITY, 0.0]);
         let square = answer(2, 2, &[1e160, 1e160, 0.0, 1e160], DEFAULT);
-        expect(&square, "stopped 100 100 0 2", &[f64::NAN; 4]);
+        expect(&square, "stopped 100 100 0 2 200", &[f64::NAN; 4]);
         let (u, v) = square.uv.unwrap();
         assert!(u.iter().chain(&v).all(|entry| entry.is_nan()));
     }
@@ -222,10 +226,10 @@ mod differences {
     #[test]
     fn no_shift_of_large_readings() {
         let split = |x: f64| answer(2, 2, &[x, x, 0.0, x], DEFAULT);
-        assert_eq!(split(1e77).report.to_string(), "settled 7 6 1 1");
+        assert_eq!(split(1e77).report.to_string(), "settled 7 6 1 1 12");
         expect(
             &split(1e78),
-            "stopped 100 100 0 2",
+            "stopped 100 100 0 2 200",
             &[-1e78, 1e78, 0.0, -1e78],
         );
     }
@@ -275,7 +279,8 @@ mod differences {
         let table = [0.0, 1.0, -2.0, 0.0, -2.0, -2.0, 0.0, -2.0, -2.0];
         let at = |limit| answer(3, 3, &table, Settings { limit, ..DEFAULT }).report;
         assert_eq!((at(57).drops, at(58).drops), (0, 1));
-        assert_eq!(at(100).to_string(), "stopped 150 149 1 2");
+        // 57 sweeps over three, and 92 over two.
+        assert_eq!(at(100).to_string(), "stopped 150 149 1 2 412");
     }
 
     /// No rotation and no drop asks for the floor.
@@ -288,7 +293,7 @@ mod differences {
             0.0,
             -1.6180339887498947e-22,
         ];
-        expect(&small, "settled 2 1 1 1", &left);
+        expect(&small, "settled 2 1 1 1 2", &left);
     }
 
     /// The first turn of a sweep makes no zero: it goes by the shift, and the bulge comes of it.

@@ -16,6 +16,7 @@ const SETTLED: Report = Report {
     sweeps: 2,
     drops: 1,
     range: 1,
+    rotations: 4,
 };
 
 /// The bits of a list: -0 is not 0.
@@ -156,8 +157,8 @@ fn the_order_of_the_refusals() {
     ];
     // Bad readings are there from the start, and only 8 speaks of them.
     let refused = |number: u64| match number {
-        8 => Report::from([8, 0, 1, 5, 0, 0, 0, 0, 0]),
-        _ => Report::from([number, 0, 0, 0, 0, 0, 0, 0, 0]),
+        8 => Report::from([8, 0, 1, 5, 0, 0, 0, 0, 0, 0]),
+        _ => Report::from([number, 0, 0, 0, 0, 0, 0, 0, 0, 0]),
     };
     for (call, numbers) in [
         (Call::Ordered, [1, 2, 3, 4, 5, 11, 6, 7, 8]),

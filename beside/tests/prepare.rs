@@ -44,6 +44,76 @@ fn only_the_listed_lines_change() {
     }
 }
 
+/// All that is put in, by file and line of the original: two settings and the counters.
+#[test]
+fn the_lines_that_are_put_in() {
+    let put_in: Vec<String> = FILES
+        .iter()
+        .flat_map(|file| {
+            let listing = prepare(file, &original(file)).unwrap().listing;
+            let lines = listing.lines().map(str::to_string);
+            lines
+                .filter(|line| line.contains(" + "))
+                .collect::<Vec<_>>()
+        })
+        .map(|line| {
+            let (place, text) = line.split_once(" + ").unwrap();
+            format!("{place} {}", text.trim())
+        })
+        .collect();
+    let walk = |file: &str, pass: [usize; 2]| {
+        pass.map(|line| {
+            [
+                format!("svd/{file}.rs:{line} crate::record::pass();"),
+                format!("svd/{file}.rs:{} crate::record::sweep(range);", line + 14),
+                format!("svd/{file}.rs:{} crate::record::left(range);", line + 16),
+            ]
+        })
+        .concat()
+    };
+    let mut must: Vec<String> = [
+        "francis/givens.rs:1 crate::record::rotation(a);",
+        "francis/primitives.rs:20 if max_element.abs() < crate::record::floor() {",
+        "svd/primitives.rs:37 *curriter = curriter.saturating_sub(crate::record::credit());",
+        "svd/primitives.rs:37 crate::record::drop();",
+    ]
+    .map(str::to_string)
+    .into();
+    must.extend(walk("bulge_chasing", [26, 63]));
+    must.extend(walk("verify", [153, 193]));
+    assert_eq!(put_in, must);
+}
+
+/// The rotation counts itself, before all else. Nothing calls it but the four sweeps, each at its first
+/// rotation, at two in a step, and at its last.
+#[test]
+fn where_rotations_are_computed() {
+    let mut calls = Vec::new();
+    for file in FILES {
+        let copy = prepare(file, &original(file)).unwrap().copy;
+        let lines: Vec<&str> = copy.lines().map(str::trim).collect();
+        let mut function = "";
+        for (at, line) in lines.iter().enumerate() {
+            if let Some((_, rest)) = line.split_once("fn ") {
+                function = rest.split('(').next().unwrap();
+            }
+            if line.contains("fn implicit_givens_rotation(") {
+                assert_eq!(lines[at + 1], "crate::record::rotation(a);");
+            } else if line.contains("implicit_givens_rotation(") {
+                calls.push(function.to_string());
+            }
+        }
+    }
+    let sweeps = [
+        "ugivens_iteration",
+        "lgivens_iteration",
+        "full_ugivens_iteration",
+        "full_lgivens_iteration",
+    ];
+    let must: Vec<&str> = sweeps.iter().flat_map(|sweep| [*sweep; 4]).collect();
+    assert_eq!(calls, must);
+}
+
 #[test]
 fn every_expected_text_is_needed() {
     for file in FILES {

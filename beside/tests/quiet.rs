@@ -137,39 +137,45 @@ fn real_runs() {
     let most = f64::MAX;
     let default = Settings::DEFAULT;
     let runs: [(usize, usize, &[f64], usize, &str); 16] = [
-        (2, 2, &[0.0; 4], 3, "quiet 3 3 0 2"),
-        (2, 2, &[0.0; 4], 100, "quiet 100 100 0 2"),
-        (2, 2, &[0.0; 4], 0, "quiet 0 0 0 2"),
-        (2, 2, &[2.0, 0.0, 0.0, 1.0], 0, "quiet 0 0 0 2"),
-        (2, 2, &[2.0, 0.0, 0.0, 1.0], 1, "settled 1 0 1 1"),
-        (2, 3, &[0.0, 0.0, 0.0, -0.0, 0.0, 0.0], 0, "quiet 0 0 0 2"),
-        (2, 3, &[0.0, 1e-22, 0.0, 0.0, 0.0, 0.0], 0, "quiet 0 0 0 2"),
-        (2, 2, &[0.5, -0.5, 0.0, -1.0], 1, "quiet 1 1 0 2"),
-        (2, 2, &[0.5, -0.5, 0.0, -1.0], 0, "stopped 0 0 0 2"),
-        (2, 2, &[0.0, LEAST, 0.0, 0.0], 0, "stopped 0 0 0 2"),
-        (2, 2, &[most; 4], 0, "stopped 0 0 0 2"),
+        (2, 2, &[0.0; 4], 3, "quiet 3 3 0 2 6"),
+        (2, 2, &[0.0; 4], 100, "quiet 100 100 0 2 200"),
+        (2, 2, &[0.0; 4], 0, "quiet 0 0 0 2 0"),
+        (2, 2, &[2.0, 0.0, 0.0, 1.0], 0, "quiet 0 0 0 2 0"),
+        (2, 2, &[2.0, 0.0, 0.0, 1.0], 1, "settled 1 0 1 1 0"),
+        (2, 3, &[0.0, 0.0, 0.0, -0.0, 0.0, 0.0], 0, "quiet 0 0 0 2 0"),
+        (
+            2,
+            3,
+            &[0.0, 1e-22, 0.0, 0.0, 0.0, 0.0],
+            0,
+            "quiet 0 0 0 2 0",
+        ),
+        (2, 2, &[0.5, -0.5, 0.0, -1.0], 1, "quiet 1 1 0 2 2"),
+        (2, 2, &[0.5, -0.5, 0.0, -1.0], 0, "stopped 0 0 0 2 0"),
+        (2, 2, &[0.0, LEAST, 0.0, 0.0], 0, "stopped 0 0 0 2 0"),
+        (2, 2, &[most; 4], 0, "stopped 0 0 0 2 0"),
         (
             2,
             3,
             &[0.0, 0.0, 0.0, LEAST, 0.0, 0.0],
             0,
-            "stopped 0 0 0 2",
+            "stopped 0 0 0 2 0",
         ),
-        (2, 2, &[0.0, 1.0, 0.0, 1.0], 100, "stopped 100 100 0 2"),
-        (1, 3, &[0.0; 3], 0, "settled 0 0 0 1"),
+        (2, 2, &[0.0, 1.0, 0.0, 1.0], 100, "stopped 100 100 0 2 200"),
+        (1, 3, &[0.0; 3], 0, "settled 0 0 0 1 0"),
         (
             3,
             3,
             &[0.0, 0.0, 0.0, 0.0, 0.0, 1e-13, 0.0, 0.0, 1.0],
             2,
-            "quiet 3 2 1 2",
+            "quiet 3 2 1 2 4",
         ),
         (
             3,
             3,
             &[0.0, 0.0, 0.0, 0.0, 0.0, 1e-13, 0.0, 0.0, 1.0],
             0,
-            "stopped 0 0 0 3",
+            "stopped 0 0 0 3 0",
         ),
     ];
     for (rows, cols, matrix, limit, says) in runs {
@@ -253,7 +259,7 @@ fn the_words_are_told_wrong() {
 fn surveys_that_end_quiet() {
     let zeros = "0000000000000000 0000000000000000\n";
     let text = format!("1\n7 2 2\n{zeros}{zeros}");
-    let answer = format!("7 quiet 100 100 0 2\n{zeros}{zeros}");
+    let answer = format!("7 quiet 100 100 0 2 200\n{zeros}{zeros}");
     assert_eq!(split(text.as_bytes()), answer);
     let many = |word: &str| {
         let says = |text: &&Vec<u8>| split(text).lines().any(|line| line.contains(word));
@@ -288,7 +294,9 @@ mod limits {
             for x in [0.0, -0.0] {
                 for limit in [0, 1, 2, 3, 99, 100, 1_000] {
                     let (report, matrix) = plain(rows, cols, &vec![x; rows * cols], limit);
-                    let says = format!("quiet {limit} {limit} 0 {}", rows.min(cols));
+                    let card = rows.min(cols);
+                    let turns = 2 * (card - 1) * limit;
+                    let says = format!("quiet {limit} {limit} 0 {card} {turns}");
                     assert_eq!(report.to_string(), says);
                     assert!(matrix.into_iter().all(zero));
                 }

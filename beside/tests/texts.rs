@@ -12,10 +12,21 @@ fn the_stored_file() {
     assert_eq!(summary().as_bytes(), file("stdout"));
 }
 
+/// The longest text and one byte more, which the program `split` itself is run on.
+#[test]
+fn the_longest_text() {
+    let folder = concat!(env!("CARGO_MANIFEST_DIR"), "/../crates/split/");
+    let file = |name: &str| fs::read(format!("{folder}{name}")).unwrap();
+    assert!(
+        split(&file("stdin")).as_bytes() == file("stdout"),
+        "write crates/split/stdout"
+    );
+}
+
 #[test]
 fn the_example() {
     let text = b"1\n7 2 1\n4008000000000000\n4010000000000000\n";
-    let answer = "7 settled 0 0 0 1\nC014000000000000\n0000000000000000\n";
+    let answer = "7 settled 0 0 0 1 0\nC014000000000000\n0000000000000000\n";
     assert_eq!(split(text), answer);
     assert_eq!(split(&text[..text.len() - 1]), "refused 9 4\n");
     let more = [text as &[u8], b"\n"].concat();
@@ -28,7 +39,7 @@ fn one_line_of_each_kind() {
     let say = |text: String| split(text.as_bytes());
     assert_eq!(
         say(format!("1\n5 1 1\n{one}\n")),
-        format!("5 settled 0 0 0 1\n{one}\n")
+        format!("5 settled 0 0 0 1 0\n{one}\n")
     );
     assert_eq!(say(format!("01\n5 1 1\n{one}\n")), "refused 9 1\n");
     assert_eq!(say(format!("9\n5 1 1\n{one}\n")), "refused 9 1\n");

@@ -37,7 +37,7 @@ fn the_words_of_a_run() {
     let head = [
         2, 2, 100, 50, tolerance, absolute, floor, 2, 0, 4, 4, 4, 2, 0,
     ];
-    let report = [0, 0, 0, 0, 1, 1, 0, 1, 1];
+    let report = [0, 0, 0, 0, 1, 1, 0, 1, 1, 0];
     let mut right = [&head[..], &[two, 0, 0, one], &report].concat();
     right.extend([minus_two, 0, 0, one, minus_one, 0, 0, one, one, 0, 0, one]);
     // The first column of U is negated: it is the identity again, but for the sign of its zero.
@@ -61,7 +61,7 @@ fn the_words_of_a_refusal() {
         start: Start::Given(vec![], vec![1.0, 2.0]),
         values: vec![7.0; 3],
     };
-    let refused = [2, 0, 0, 0, 0, 0, 0, 0, 0];
+    let refused = [2, 0, 0, 0, 0, 0, 0, 0, 0, 0];
     let (one, two) = (1f64.to_bits(), 2f64.to_bits());
     let all = words(&run, &told(&run), 0);
     assert_eq!(all[..2], [1 << 63, 2]);
@@ -74,22 +74,27 @@ fn the_words_of_a_refusal() {
     };
     let fewer = words(&kept, &told(&kept), 0);
     assert_eq!(fewer[7..14], [1, 1, 1, 0, 2, 0, 0]);
-    assert_eq!(fewer[14..], all[14..26]);
+    assert_eq!(fewer[14..], all[14..27]);
 }
 
 /// With 12 the ordered call has the accumulating one's words but for the number, and no lists.
 #[test]
 fn the_words_of_a_run_that_has_not_settled() {
-    let none = Settings {
-        limit: 0,
+    let after = |limit: usize| Settings {
+        limit,
         ..Settings::DEFAULT
     };
-    for (coupling, word) in [(3.0, 2), (0.0, 3)] {
-        let run = Run::from(cases::case(2, 2, &[2.0, coupling, 0.0, 1.0], none));
+    let zeros: &[f64] = &[0.0; 4];
+    for (table, limit, report) in [
+        (&[2.0, 3.0, 0.0, 1.0][..], 0, [2, 0, 0, 0, 2, 0]),
+        (&[2.0, 0.0, 0.0, 1.0], 0, [3, 0, 0, 0, 2, 0]),
+        (zeros, 3, [3, 3, 3, 0, 2, 6]),
+    ] {
+        let run = Run::from(cases::case(2, 2, table, after(limit)));
         let all = words(&run, &told(&run), 0);
-        let stopped = [0, 0, 0, 0, word, 0, 0, 0, 2];
-        assert_eq!(all[18..27], stopped);
-        assert_eq!(all[39..], [&[12], &stopped[1..]].concat());
+        let stopped = [&[0; 4], &report[..]].concat();
+        assert_eq!(all[18..28], stopped);
+        assert_eq!(all[40..], [&[12], &stopped[1..]].concat());
     }
 }
 

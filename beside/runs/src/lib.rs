@@ -1,10 +1,11 @@
 //! The proved library, called as an app calls it, and how its reply is held against the reply that
 //! the call must get.
 
-use beside::Report;
 use beside::order::{diagonal, places};
 use beside::quiet::{self, Corner};
+use beside::rotations::Turned;
 use beside::run::{Call, Reply, Run, alike, untouched, unwritten};
+use beside::{Report, Walked};
 use merotunki::raw;
 
 pub mod lots;
@@ -73,9 +74,16 @@ pub fn differs(got: &Reply, must: &Reply) -> Option<String> {
         .map(|(name, ..)| name.to_string())
 }
 
-/// The laws of an accepted reply, on the library's own replies: the counts, the word by its own table, the
-/// bound, credit 0, and the same answer at a greater limit once it is settled.
-fn breaks(run: &Run, call: Call, got: &Reply, greater: Option<usize>) -> Option<&'static str> {
+/// The laws of an accepted reply, on the library's own replies: the counts, the rotations by the ranges at
+/// the original's sweeps, the word by its own table, the bound, credit 0, and the same answer at a greater
+/// limit once it is settled.
+fn breaks(
+    run: &Run,
+    call: Call,
+    got: &Reply,
+    walked: Walked,
+    greater: Option<usize>,
+) -> Option<&'static str> {
     let Report {
         word,
         passes,
@@ -88,6 +96,9 @@ fn breaks(run: &Run, call: Call, got: &Reply, greater: Option<usize>) -> Option<
     let (limit, credit) = (run.settings.limit as u64, run.settings.credit as u64);
     if passes != sweeps + drops || drops + range != card || range == 0 {
         return Some("law of the counts");
+    }
+    if Turned::of(run, got, walked).is_some_and(|turned| !turned.right()) {
+        return Some("law of the rotations");
     }
     let told = quiet::word(run.rows, run.cols, &got.matrix, range as usize);
     if word != told || (card == 1 && passes != 0) {
@@ -127,6 +138,8 @@ pub struct Seen {
     pub infinite: bool,
     /// The corner that is still live, where it was accepted and has not settled.
     pub corner: Option<Corner>,
+    /// The rotations, where it was accepted.
+    pub turned: Option<Turned>,
     /// Of the ordered call, where it was made.
     pub order: Option<Order>,
 }
@@ -138,6 +151,8 @@ pub struct Order {
     number: u64,
     /// The run's word.
     word: u64,
+    /// The run made rotations.
+    turned: bool,
     /// A number besides 11 applies, and 11 applies.
     two: bool,
     /// There is more than one value.
@@ -153,8 +168,11 @@ pub struct Order {
     minus_zero: bool,
 }
 
+/// The one of the meetings that a few thousand runs need not have.
+pub const RARE: &str = "refused 13, with rotations";
+
 /// What ordered calls can meet, and which of them do.
-pub const MEETINGS: [(&str, fn(&Order) -> bool); 15] = [
+pub const MEETINGS: [(&str, fn(&Order) -> bool); 17] = [
     ("values in order", |order| order.number == 0),
     ("in order, more than one value", |order| {
         order.number == 0 && order.several
@@ -188,10 +206,14 @@ pub const MEETINGS: [(&str, fn(&Order) -> bool); 15] = [
     ("refused 12, quiet", |order| {
         order.number == 12 && order.word == Report::QUIET
     }),
+    ("refused 12, with rotations", |order| {
+        order.number == 12 && order.turned
+    }),
     ("refused 13", |order| order.number == 13),
     ("refused 13, more than one value", |order| {
         order.number == 13 && order.several
     }),
+    (RARE, |order| order.number == 13 && order.turned),
 ];
 
 impl Order {
@@ -211,6 +233,7 @@ impl Order {
         Order {
             number,
             word: kept.report.word,
+            turned: kept.report.rotations > 0,
             two: unfit && !listed,
             several: values.len() > 1,
             moved: !places(&values).is_sorted(),
@@ -242,15 +265,15 @@ fn agrees(kept: &Reply, other: &Reply, call: Call) -> bool {
 pub fn check(run: &Run, greater: Option<usize>) -> Result<Seen, String> {
     let greater = greater.filter(|&limit| limit > run.settings.limit);
     let mut seen = Seen::default();
-    // The accumulating call's reply, by the library and by the original.
-    let mut before: Option<(Reply, Reply)> = None;
+    // The accumulating call's reply, by the library and by the original, whose walk is recorded.
+    let mut before: Option<(Reply, Reply, Walked)> = None;
     let calls = [Call::Accumulating, Call::Ordered, Call::Plain];
     for call in calls.into_iter().filter(|&call| call <= run.call) {
         let name = call.name();
         let got = library(run, call);
-        let must = match &before {
-            Some((_, kept)) if call == Call::Ordered => run.ordered(kept),
-            _ => run.reply(call),
+        let (must, walked) = match &before {
+            Some((_, kept, walked)) if call == Call::Ordered => (run.ordered(kept), *walked),
+            _ => run.walked(call),
         };
         seen.calls += 1;
         if let Some(what) = differs(&got, &must) {
@@ -260,13 +283,13 @@ pub fn check(run: &Run, greater: Option<usize>) -> Result<Seen, String> {
             ));
         }
         if got.report.number == 0 {
-            if let Some(law) = breaks(run, call, &got, greater) {
+            if let Some(law) = breaks(run, call, &got, walked, greater) {
                 return Err(format!("{name} call: {law}, {:?}\n", got.report));
             }
             seen.greater |= greater.is_some() && got.report.word == Report::SETTLED;
             seen.reached |= reached(run, &got);
         }
-        if let Some((kept, _)) = &before {
+        if let Some((kept, ..)) = &before {
             if !agrees(kept, &got, call) {
                 return Err(format!(
                     "law of the calls: {name} and accumulating differ\n"
@@ -280,7 +303,8 @@ pub fn check(run: &Run, greater: Option<usize>) -> Result<Seen, String> {
             seen.nan = got.matrix.iter().any(|value| value.is_nan());
             seen.infinite = got.matrix.iter().any(|value| value.is_infinite());
             seen.corner = Corner::of(run, &got);
-            before = Some((got, must));
+            seen.turned = Turned::of(run, &got, walked);
+            before = Some((got, must, walked));
         }
     }
     Ok(seen)

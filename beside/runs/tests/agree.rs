@@ -1,9 +1,10 @@
 //! The comparison itself: drawn runs agree, each kind of reply is met, and a reply that is wrong is seen.
 
 use beside::kinds::{Sizes, drawn};
+use beside::rotations::{INFINITE, SHOWING, slips};
 use beside::run::{Call, Run, Start, unwritten};
 use beside::{Report, Settings, refusals};
-use runs::{MEETINGS, check, differs, library, shrunk};
+use runs::{MEETINGS, RARE, check, differs, library, shrunk};
 
 fn run(rows: usize, cols: usize, matrix: &[f64]) -> Run {
     Run {
@@ -30,16 +31,25 @@ fn drawn_runs_agree() {
         }
     }
     assert!(numbers.iter().all(|&many| many > 0), "{numbers:?}");
-    assert!(meetings.iter().all(|&many| many > 0), "{meetings:?}");
+    for (many, (name, _)) in meetings.iter().zip(MEETINGS) {
+        assert!(*many > 0 || name == RARE, "{name}");
+    }
 }
 
 /// The runs that are refused, at the bounds, and after which the ordered call has 12, 13 or an order.
 #[test]
 fn fixed_runs_agree() {
+    let (_, is_rare) = MEETINGS
+        .into_iter()
+        .find(|(name, _)| *name == RARE)
+        .unwrap();
+    let mut rare = 0;
     for (call, told, run) in refusals::all() {
-        check(&run, None).unwrap_or_else(|wrong| panic!("{wrong}{}", run.told()));
+        let seen = check(&run, None).unwrap_or_else(|wrong| panic!("{wrong}{}", run.told()));
         assert_eq!(library(&run, call).report.number, told, "{}", run.told());
+        rare += u64::from(seen.order.as_ref().is_some_and(is_rare));
     }
+    assert!(rare > 1);
 }
 
 #[test]
@@ -141,6 +151,27 @@ fn quiet_is_told() {
             let mut wrong = got.clone();
             wrong.report.word = Report::STOPPED + Report::QUIET - word;
             assert_eq!(differs(&wrong, &must).unwrap(), "the report's word");
+        }
+    }
+}
+
+/// The library's own count, by every call: each number that a slip would tell in its place is seen.
+#[test]
+fn rotations_are_told() {
+    for (rows, cols, matrix) in SHOWING.into_iter().chain(INFINITE) {
+        let run = run(rows, cols, matrix);
+        let seen = check(&run, None).unwrap_or_else(|wrong| panic!("{wrong}{}", run.told()));
+        let turned = seen.turned.unwrap();
+        assert!(turned.right() && turned.many() > 0);
+        for call in [Call::Plain, Call::Accumulating, Call::Ordered] {
+            let (got, must) = (library(&run, call), run.reply(call));
+            assert_eq!(got.report.rotations, turned.many());
+            for (name, many) in slips(&turned) {
+                let mut wrong = got.clone();
+                wrong.report.rotations = many;
+                let told = differs(&wrong, &must);
+                assert_eq!(told.as_deref(), Some("the report's rotations"), "{name}");
+            }
         }
     }
 }

@@ -3,11 +3,10 @@
 //! the same one, whatever the threads. `compare only SEED N` makes that one run alone.
 //! Ends with status 1 at the first difference, printed as the smallest case that is found from it.
 
-use beside::Report;
 use beside::kinds::{Sizes, TABLES, drawn};
-use beside::quiet;
 use beside::readings::{self, COUNTS};
 use beside::run::Run;
+use beside::{Report, quiet, rotations};
 use runs::lots::{self, all, ended, met, number};
 use runs::{MEETINGS, Seen, check, shrunk};
 use std::process::ExitCode;
@@ -36,6 +35,10 @@ struct Counts {
     passes: u64,
     drops: u64,
     most: u64,
+    /// All of them, those of (0, b), and the most in a run.
+    rotations: [u64; 3],
+    /// Of the runs that are accepted.
+    turned: [u64; rotations::COUNTS.len()],
     ordered: u64,
     meetings: [u64; MEETINGS.len()],
 }
@@ -59,6 +62,8 @@ impl lots::Counts for Counts {
             passes: 0,
             drops: 0,
             most: 0,
+            rotations: [0; 3],
+            turned: [0; rotations::COUNTS.len()],
             ordered: 0,
             meetings: [0; MEETINGS.len()],
         }
@@ -75,6 +80,9 @@ impl lots::Counts for Counts {
         add(&mut self.corners, &other.corners);
         add(&mut self.shapes, &other.shapes);
         add(&mut self.meetings, &other.meetings);
+        add(&mut self.turned, &other.turned);
+        add(&mut self.rotations[..2], &other.rotations[..2]);
+        self.rotations[2] = self.rotations[2].max(other.rotations[2]);
         for (to, from) in self.tables.iter_mut().zip(&other.tables) {
             add(to, from);
         }
@@ -128,6 +136,15 @@ impl Counts {
                 *many += u64::from(is(corner));
             }
         }
+        if let Some(turned) = &seen.turned {
+            let [all, zeros, most] = &mut self.rotations;
+            *all += turned.many();
+            *zeros += turned.zeros();
+            *most = turned.many().max(*most);
+            for (many, (_, is)) in self.turned.iter_mut().zip(rotations::COUNTS) {
+                *many += u64::from(is(turned));
+            }
+        }
         if let Some(order) = &seen.order {
             self.ordered += 1;
             for (many, (_, met)) in self.meetings.iter_mut().zip(MEETINGS) {
@@ -165,6 +182,11 @@ impl Counts {
             "passes {} in all, {} of them drops, {} the most in a run",
             self.passes, self.drops, self.most
         );
+        let [all, zeros, most] = self.rotations;
+        println!("rotations {all} in all, {zeros} of them of (0, b), {most} the most in a run");
+        for (many, (name, _)) in self.turned.iter().zip(rotations::COUNTS) {
+            println!("  {name}: {}", met(*many));
+        }
         println!(
             "accepted with a NaN afterwards {}, with an infinity {}",
             self.nan, self.infinite
