@@ -16,6 +16,7 @@ mod record;
 pub mod refusals;
 pub mod run;
 pub mod survey;
+pub mod tables;
 pub mod text;
 pub mod texts;
 pub mod vectors;
