@@ -49,6 +49,8 @@ answer! {
     drops,
     /// How much of the diagonal is still live: 1 where settled, above 1 where stopped or quiet.
     range,
+    /// Rotations computed by the sweeps, each counted once, whatever it turns.
+    rotations,
 }
 
 impl Answer {
