@@ -270,7 +270,7 @@ pub fn picture(tables: &[Measured], rounds: usize) -> String {
     }
     key(
         "flat",
-        "flat tables of any size: all readings equal, or all zero but one station's or one pass's; many of their rotations have nothing to turn",
+        "flat tables of any size: all readings equal, or all zero but one station's or one pass's; many of their rotations need no root",
     );
     let high = y + 4.0;
     format!(
