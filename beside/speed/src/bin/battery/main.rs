@@ -1,8 +1,9 @@
 //! battery [--picture FILE] [TABLES [ROUNDS]]: how long the library's calls take by their rotations, on drawn tables of
-//! many shapes and kinds (2,000 where none is given), always the same ones. Each is timed in ROUNDS rounds (101), and of
-//! each the medians count. Prints, for docs/GUIDE.md, a table by shape for the accumulating call and one for the plain
-//! call, with the line time = fixed + each x rotations; how time goes with rotations and with passes; and one long call.
-//! Writes the picture to FILE (docs/pictures/battery.svg).
+//! many shapes and kinds (2,000 where none is given), always the same ones. Each is timed once a round, in ROUNDS rounds
+//! (101), and of each the medians count. Prints for docs/GUIDE.md a table by shape for the accumulating call and one for
+//! the plain call: the line time = fixed + each x rotations and, to hold beside `fixed`, what the call takes at limit 0;
+//! then how time goes with rotations and with passes, and one long call. Writes the picture to FILE
+//! (docs/pictures/battery.svg).
 
 mod figures;
 mod measure;
@@ -21,6 +22,8 @@ const ROTATIONS: Count = |table| table.answer.rotations as f64;
 const PASSES: Count = |table| table.answer.passes as f64;
 const FULL: Count = |table| table.full;
 const PLAIN: Count = |table| table.plain;
+const FULL_FORM: Count = |table| table.full_form;
+const PLAIN_FORM: Count = |table| table.plain_form;
 
 fn points(tables: &[&Measured], x: Count, y: Count) -> Vec<(f64, f64)> {
     tables.iter().map(|table| (x(table), y(table))).collect()
@@ -36,12 +39,12 @@ fn of_shape(tables: &[Measured], shape: usize) -> (Vec<&Measured>, Vec<&Measured
     all.partition(|table| !table.flat)
 }
 
-/// Prints the table by shape of a call, and answers its lines.
-fn by_shape(tables: &[Measured], call: &str, time: Count) -> Vec<Line> {
+/// Prints the table by shape of a call, with what it takes at limit 0, and answers its lines.
+fn by_shape(tables: &[Measured], call: &str, time: Count, form: Count) -> Vec<Line> {
     println!(
-        "| {call} call | tables | rotations: median (least to most) | time, us: median | fixed, us | each rotation, ns | R2 | farthest off | R2 by passes | flat tables | their time, of the line's |"
+        "| {call} call | tables | rotations: median (least to most) | time, us: median | at limit 0 | fixed, us | each rotation, ns | R2 | farthest off | R2 by passes | flat tables | their time, of the line's |"
     );
-    println!("|---|---|---|---|---|---|---|---|---|---|---|");
+    println!("|---|---|---|---|---|---|---|---|---|---|---|---|");
     let row = |shape: usize| {
         let (airy, flat) = of_shape(tables, shape);
         let line = Line::through(&points(&airy, ROTATIONS, time));
@@ -52,12 +55,13 @@ fn by_shape(tables: &[Measured], call: &str, time: Count) -> Vec<Line> {
             .map(|table| time(table) / line.at(ROTATIONS(table)));
         let (rows, cols) = SHAPES[shape];
         println!(
-            "| {rows} x {cols} | {} | {} ({} to {}) | {} | {} | {:.0} | {:.3} | {} | {:.3} | {} | {} |",
+            "| {rows} x {cols} | {} | {} ({} to {}) | {} | {} | {} | {:.0} | {:.3} | {} | {:.3} | {} | {} |",
             airy.len(),
             rotations(0.5),
             rotations(0.0),
             rotations(1.0),
             three(median(list(&airy, time))),
+            three(median(list(&airy, form))),
             three(line.fixed),
             1e3 * line.each,
             line.told,
@@ -161,8 +165,11 @@ fn main() {
         tables.iter().filter(|table| table.flat).count()
     );
     let sizes = SHAPES.map(|(rows, cols)| (rows + cols) as f64);
-    for (call, time) in [("accumulating", FULL), ("plain", PLAIN)] {
-        let lines = by_shape(&tables, call, time);
+    for (call, time, form) in [
+        ("accumulating", FULL, FULL_FORM),
+        ("plain", PLAIN, PLAIN_FORM),
+    ] {
+        let lines = by_shape(&tables, call, time, form);
         let each = sizes
             .into_iter()
             .zip(lines.iter().map(|line| 1e3 * line.each));

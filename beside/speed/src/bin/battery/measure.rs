@@ -27,6 +27,12 @@ pub const SHAPES: [Shape; 15] = [
     (10, 20),
 ];
 
+/// No pass is made with these.
+const FORM_ALONE: Settings = Settings {
+    limit: 0,
+    ..Settings::DEFAULT
+};
+
 /// A drawn table and what was measured on it.
 pub struct Measured {
     /// Which of the shapes it has.
@@ -39,6 +45,9 @@ pub struct Measured {
     /// Microseconds of the accumulating call and of the plain one, each the median of the rounds.
     pub full: f64,
     pub plain: f64,
+    /// The same at limit 0: the checks and the bidiagonal form, without a rotation.
+    pub full_form: f64,
+    pub plain_form: f64,
 }
 
 /// So many tables, always the same ones: the shapes by turns, and within each shape the kinds.
@@ -62,6 +71,8 @@ pub fn tables(many: usize) -> Vec<Measured> {
             answer: Answer::default(),
             full: 0.0,
             plain: 0.0,
+            full_form: 0.0,
+            plain_form: 0.0,
         }
     };
     (0..many).map(measured).collect()
@@ -139,19 +150,24 @@ pub fn measure(tables: &mut [Measured], rounds: usize) {
             "{rotations} rotations in {sweeps} sweeps"
         );
     }
-    let mut times = vec![[Vec::new(), Vec::new()]; tables.len()];
+    let mut times = vec![[const { Vec::new() }; 4]; tables.len()];
     let draw = &mut Draw(0);
     for _ in 0..rounds {
         for number in order(draw, tables.len()) {
             let (answer, spent) = once(&tables[number], &Settings::DEFAULT);
             assert_eq!(answer, tables[number].answer, "an answer that changes");
-            for (times, spent) in times[number].iter_mut().zip(spent) {
+            let (answer, formed) = once(&tables[number], &FORM_ALONE);
+            assert_eq!((answer.passes, answer.rotations), (0, 0), "at limit 0");
+            for (times, spent) in times[number]
+                .iter_mut()
+                .zip(spent.into_iter().chain(formed))
+            {
                 times.push(spent);
             }
         }
     }
     for (table, times) in tables.iter_mut().zip(times) {
-        [table.full, table.plain] = times.map(median);
+        [table.full, table.plain, table.full_form, table.plain_form] = times.map(median);
     }
 }
 
