@@ -42,7 +42,7 @@ fn of_shape(tables: &[Measured], shape: usize) -> (Vec<&Measured>, Vec<&Measured
 /// Prints the table by shape of a call, with what it takes at limit 0, and answers its lines.
 fn by_shape(tables: &[Measured], call: &str, time: Count, form: Count) -> Vec<Line> {
     println!(
-        "| {call} call | tables | rotations: median (least to most) | time, us: median | at limit 0 | fixed, us | each rotation, ns | R2 | farthest off | R2 by passes | flat tables | their time, of the line's |"
+        "| {call} call | tables | rotations: median (least to most) | time, us: median | at limit 0 | fixed, us | each rotation, ns | R2 | farthest off | R2 by passes | flat tables | their time, of the line's: median (least to most) |"
     );
     println!("|---|---|---|---|---|---|---|---|---|---|---|---|");
     let row = |shape: usize| {
@@ -50,12 +50,15 @@ fn by_shape(tables: &[Measured], call: &str, time: Count, form: Count) -> Vec<Li
         let line = Line::through(&points(&airy, ROTATIONS, time));
         let by_passes = Line::through(&points(&airy, PASSES, time));
         let rotations = |part| whole(quantile(list(&airy, ROTATIONS), part));
-        let parts = flat
-            .iter()
-            .map(|table| time(table) / line.at(ROTATIONS(table)));
+        let of_line = |part| {
+            let parts = flat
+                .iter()
+                .map(|table| time(table) / line.at(ROTATIONS(table)));
+            share(quantile(parts.collect(), part))
+        };
         let (rows, cols) = SHAPES[shape];
         println!(
-            "| {rows} x {cols} | {} | {} ({} to {}) | {} | {} | {} | {:.0} | {:.3} | {} | {:.3} | {} | {} |",
+            "| {rows} x {cols} | {} | {} ({} to {}) | {} | {} | {} | {:.0} | {:.3} | {} | {:.3} | {} | {} ({} to {}) |",
             airy.len(),
             rotations(0.5),
             rotations(0.0),
@@ -68,7 +71,9 @@ fn by_shape(tables: &[Measured], call: &str, time: Count, form: Count) -> Vec<Li
             share(line.off),
             by_passes.told,
             flat.len(),
-            share(median(parts.collect())),
+            of_line(0.5),
+            of_line(0.0),
+            of_line(1.0),
         );
         line
     };
