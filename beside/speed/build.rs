@@ -1,8 +1,13 @@
-//! Links the two altered builds of the library, which beside/benchmark makes first.
+//! Links the two altered builds of the library, which beside/benchmark makes first; it alone asks for them, by the
+//! feature `altered`.
 
-use std::fs;
+use std::{env, fs};
 
 fn main() {
+    println!("cargo:rerun-if-changed=build.rs");
+    if env::var_os("CARGO_FEATURE_ALTERED").is_none() {
+        return;
+    }
     for (folder, name) in [("hardware-root", "bare"), ("counted-root", "counted")] {
         let path = format!("../../target/altered/{folder}");
         let found = fs::canonicalize(format!("{path}/lib{name}.a"))

@@ -17,6 +17,7 @@ pub mod refusals;
 pub mod rotations;
 pub mod run;
 pub mod survey;
+pub mod tables;
 pub mod text;
 pub mod texts;
 pub mod vectors;
