@@ -113,6 +113,19 @@ fn goes_with(tables: &[Measured], name: &str, count: Count) {
     );
 }
 
+/// Prints which part of the rotations are of (0, b): of the flat tables' and of the others'.
+fn without_root(tables: &[Measured]) {
+    let [flat, others] = [true, false].map(|flat| {
+        let of = tables.iter().filter(|table| table.flat == flat);
+        let zeros: u64 = of.clone().map(|table| table.zeros).sum();
+        let rotations: u64 = of.map(|table| table.answer.rotations).sum();
+        format!("{:.1} %", 100.0 * zeros as f64 / rotations as f64)
+    });
+    println!(
+        "rotations of (0, b), which take no root: {flat} of the flat tables', {others} of the others'"
+    );
+}
+
 /// Prints one long call, and what the greatest number of rotations would take at its pace.
 fn long_call(tables: &[Measured]) {
     let Some((answer, times)) = measure::longest(tables, (48, 48)) else {
@@ -189,6 +202,7 @@ fn main() {
     }
     goes_with(&tables, "rotations", ROTATIONS);
     goes_with(&tables, "passes", PASSES);
+    without_root(&tables);
     println!();
     long_call(&tables);
     fs::write(&picture, plot::picture(&tables, rounds))

@@ -1,8 +1,8 @@
 //! The tables, and how long the library takes on each of them.
 
 use crate::figures::median;
-use beside::Settings;
 use beside::tables::{Draw, KINDS, Shape, drawn};
+use beside::{Settings, walked};
 use merotunki::raw::{self, Answer};
 use std::collections::BTreeSet;
 use std::hint::black_box;
@@ -42,6 +42,8 @@ pub struct Measured {
     pub flat: bool,
     /// What both calls answer, every time.
     pub answer: Answer,
+    /// How many of its rotations are of (0, b), which take no root, as the original tells.
+    pub zeros: u64,
     /// Microseconds of the accumulating call and of the plain one, each the median of the rounds.
     pub full: f64,
     pub plain: f64,
@@ -69,6 +71,7 @@ pub fn tables(many: usize) -> Vec<Measured> {
             flat: flat(&readings, SHAPES[shape].1),
             readings,
             answer: Answer::default(),
+            zeros: 0,
             full: 0.0,
             plain: 0.0,
             full_form: 0.0,
@@ -140,6 +143,15 @@ fn order(draw: &mut Draw, many: usize) -> Vec<usize> {
 pub fn measure(tables: &mut [Measured], rounds: usize) {
     for table in tables.iter_mut() {
         table.answer = once(table, &Settings::DEFAULT).0;
+        let (rows, cols) = SHAPES[table.shape];
+        let mut matrix = table.readings.clone();
+        let (report, walked) = walked(rows, cols, &mut matrix, None, &Settings::DEFAULT);
+        assert_eq!(
+            report.words(),
+            table.answer.words(),
+            "the original's report"
+        );
+        table.zeros = walked.zeros;
     }
     for table in tables.iter() {
         let (rows, cols) = SHAPES[table.shape];
