@@ -5,6 +5,7 @@
 
 use beside::Settings;
 use merotunki::raw::{self, Answer};
+use speed::{choice, identity};
 use std::hint::black_box;
 use std::mem::swap;
 use std::time::Instant;
@@ -56,11 +57,6 @@ fn table(rows: usize, cols: usize, number: u64) -> Vec<f64> {
         10.0 * (state >> 11) as f64 / (1u64 << 53) as f64 - 2.0
     };
     (0..rows * cols).map(|_| reading()).collect()
-}
-
-fn identity(size: usize) -> Vec<f64> {
-    let entry = |at: usize| if at % (size + 1) == 0 { 1.0 } else { 0.0 };
-    (0..size * size).map(entry).collect()
 }
 
 /// What a call is lent, filled anew before each.
@@ -175,18 +171,6 @@ fn library(full: bool, plain: Plain, accumulating: Full) -> impl FnMut(&mut Lent
     }
 }
 
-/// The default settings, as the library's crate takes them.
-fn choice() -> raw::Choice {
-    let s = Settings::DEFAULT;
-    raw::Choice {
-        limit: s.limit as u64,
-        credit: s.credit as u64,
-        tolerance: s.tolerance,
-        absolute: s.absolute,
-        floor: s.floor,
-    }
-}
-
 /// The library's ordered call.
 fn in_order(lent: &mut Lent) {
     let factors = (&mut lent.u[..], &mut lent.v[..]);
@@ -197,7 +181,7 @@ fn in_order(lent: &mut Lent) {
         &mut lent.values,
         rows,
         cols,
-        choice(),
+        choice(&Settings::DEFAULT),
     );
     assert_eq!(answer.number, 0, "a table that is not put in order");
     black_box(answer);
@@ -244,7 +228,7 @@ fn refusing(rows: usize, cols: usize, repeats: usize) {
                 .filter(|&at| which(at, last, drawn[at]))
                 .collect();
             bad.iter().for_each(|&at| readings[at] = f64::NAN);
-            let answer = raw::svd(readings, rows, cols, choice());
+            let answer = raw::svd(readings, rows, cols, choice(&Settings::DEFAULT));
             assert_eq!((answer.number, answer.bad), (8, bad.len() as u64));
         }
         tables

@@ -4,6 +4,7 @@ use crate::figures::median;
 use beside::tables::{Draw, KINDS, Shape, drawn};
 use beside::{Settings, walked};
 use merotunki::raw::{self, Answer};
+use speed::{choice, identity};
 use std::collections::BTreeSet;
 use std::hint::black_box;
 use std::time::Instant;
@@ -88,22 +89,6 @@ fn flat(readings: &[f64], cols: usize) -> bool {
     let stations: BTreeSet<usize> = live.clone().map(|at| at / cols).collect();
     let passes: BTreeSet<usize> = live.map(|at| at % cols).collect();
     equal || stations.len() == 1 || passes.len() == 1
-}
-
-fn identity(size: usize) -> Vec<f64> {
-    let entry = |at: usize| f64::from(at.is_multiple_of(size + 1));
-    (0..size * size).map(entry).collect()
-}
-
-/// The settings as the library's crate takes them.
-fn choice(s: &Settings) -> raw::Choice {
-    raw::Choice {
-        limit: s.limit as u64,
-        credit: s.credit as u64,
-        tolerance: s.tolerance,
-        absolute: s.absolute,
-        floor: s.floor,
-    }
 }
 
 /// What the call answers, and its microseconds.
