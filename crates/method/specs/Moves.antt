@@ -31,6 +31,7 @@ move byRow line from entries pair = record { byRow = byRow; line = line; from = 
 
 -- ---- a move carried out
 
+-- the rotation of a pair
 abbrev pub made : Format → ℕ → Pair → Float → Float → List Float → Rotation
 made f stride own here next a = rotationOf f here next
 made f stride (shifted k) here next a = rotationOf f (sub f (mul f here here) (shiftAt f stride k a)) (mul f here next)
@@ -42,6 +43,7 @@ rotationBy f stride m a =
     let next = along (m .byRow) stride (m .line + 1) (m .from) a in
     made f stride (m .pair) here next a
 
+-- its lines turned by that rotation, and with them the columns of U or V
 abbrev pub carried : Format → Shape → Move → Work → Work
 carried f z m w = turned f z (rotationBy f (z .stride) m (w .matrix)) (m .byRow) (m .line) (m .from) (m .entries) w
 
