@@ -33,8 +33,8 @@
  *
  * MEMORY AND THREADS. No heap, no global state, no locks, no files; of other libraries memcpy and memset alone (on
  * iOS bzero) are called. Several threads may call at once, each on buffers of its own. merotunki_ordered_svd uses less
- * than 3,072 bytes of stack, every other call less than 2,048: measured on x86-64, at most 2,736 and 1,888; added up
- * from the machine code for 64-bit Arm, 2,672 and 1,776. On 64-bit Arm x18 is left alone: a caller built with a shadow
+ * than 3,072 bytes of stack, every other call less than 2,048: measured on x86-64, at most 2,768 and 1,920; added up
+ * from the machine code for 64-bit Arm, 2,704 and 1,824. On 64-bit Arm x18 is left alone: a caller built with a shadow
  * call stack keeps it.
  *
  * HOW THE CALLS ARE MADE. A slice is a pointer and a length, one after the other. An answer or choice is written where
