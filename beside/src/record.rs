@@ -84,6 +84,9 @@ pub fn sweep(range: usize) {
 
 /// A rotation is computed, whatever it then turns: that of (a, b).
 pub fn rotation(a: f64) {
+    if cfg!(feature = "uncounted") {
+        return;
+    }
     change(|record| {
         record.rotations += 1;
         record.zeros += u64::from(a == 0.0);
