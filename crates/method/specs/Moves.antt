@@ -32,16 +32,16 @@ move byRow line from entries pair = record { byRow = byRow; line = line; from = 
 -- ---- a move carried out
 
 -- the rotation of a pair
-abbrev pub made : Format → ℕ → Pair → Float → Float → List Float → Rotation
-made f stride own here next a = rotationOf f here next
-made f stride (shifted k) here next a = rotationOf f (sub f (mul f here here) (shiftAt f stride k a)) (mul f here next)
+abbrev rotationFrom : Format → ℕ → Pair → Float → Float → List Float → Rotation
+rotationFrom f stride own here next a = rotationOf f here next
+rotationFrom f stride (shifted k) here next a = rotationOf f (sub f (mul f here here) (shiftAt f stride k a)) (mul f here next)
 
 -- the rotation that a move computes
 abbrev pub rotationBy : Format → ℕ → Move → List Float → Rotation
 rotationBy f stride m a =
     let here = along (m .byRow) stride (m .line) (m .from) a in
     let next = along (m .byRow) stride (m .line + 1) (m .from) a in
-    made f stride (m .pair) here next a
+    rotationFrom f stride (m .pair) here next a
 
 -- its lines turned by that rotation, and with them the columns of U or V
 abbrev pub carried : Format → Shape → Move → Work → Work

@@ -81,7 +81,7 @@ by-moves f z rows cols s =
 -- the moves of n passes of a run
 abbrev pub movesMade : Format → Shape → ℕ → ℕ → Settings → ℕ → State Work → List Move
 movesMade f z rows cols s n first =
-    walkMoves (rulesFor f z rows cols s) (carried f z) (rangeMoves (isUpper rows cols)) (s .credit) n first
+    walkMoves (rulesFor f z rows cols s) (rangeMoves (isUpper rows cols)) (s .credit) n first
 
 module _ (f : Format) (kept : Bool) (rows cols : ℕ) (s : Settings) (w : Work) where
   abbrev ends : State Work

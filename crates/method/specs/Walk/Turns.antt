@@ -72,12 +72,7 @@ module _ {D : Type 0} (rules : Rules D) where
 
 -- ---- a walk as a list of moves
 
-module _ {D M : Type 0} (rules : Rules D) (carry : M → D → D) (moves : ℕ → List M) where
-  -- a sweep over range r is the moves of r, carried out one after another, and computes a rotation for each
-  pub record ByMoves : Type 0 where
-    pub sweeps : (r : ℕ) (d : D) → rules .sweep r d ≡ carriedOut carry (moves r) d
-    pub counts : (r : ℕ) → rules .rotations r ≡ length (moves r)
-
+module _ {D M : Type 0} (rules : Rules D) (moves : ℕ → List M) where
   -- the moves of the pass that is made of a state: none where it drops
   abbrev pub passMoves : State D → List M
   passMoves s =
@@ -91,37 +86,43 @@ module _ {D M : Type 0} (rules : Rules D) (carry : M → D → D) (moves : ℕ �
   walkMoves credit zero s = []
   walkMoves credit (suc n) s = walkMoves credit n s ++ passMoves (applied rules credit n s)
 
+module _ {D M : Type 0} (rules : Rules D) (carry : M → D → D) (moves : ℕ → List M) where
+  -- a sweep over range r is the moves of r, carried out one after another, and computes a rotation for each
+  pub record ByMoves : Type 0 where
+    pub sweeps : (r : ℕ) (d : D) → rules .sweep r d ≡ carriedOut carry (moves r) d
+    pub counts : (r : ℕ) → rules .rotations r ≡ length (moves r)
+
   -- s became e by carrying out ms, and counts a rotation more for each of them
   pub record Turned (ms : List M) (s e : State D) : Type 0 where
     pub held : e .held ≡ carriedOut carry ms (s .held)
     pub rotations : e .walk .tally .rotations ≡ s .walk .tally .rotations + length ms
 
   module _ (by : ByMoves) (credit : ℕ) where
-    pass-turned : (s : State D) → Turned (passMoves s) s (pass rules credit s)
+    pass-turned : (s : State D) → Turned (passMoves rules moves s) s (pass rules credit s)
     unfolding carriedOut
     pass-turned s = go (rules .negligible (s .walk .tally .range) (s .held)) refl
       where
         go :
             (b : Bool) → rules .negligible (s .walk .tally .range) (s .held) ≡ b →
-            Turned (passMoves s) s (pass rules credit s)
+            Turned (passMoves rules moves s) s (pass rules credit s)
         go true e = rw (pass-drop rules credit s e, e, passMoves) (record { held = refl; rotations = omega arith })
         go false e =
             rw (pass-sweep rules credit s e, e, passMoves)
             (let r = s .walk .tally .range in record { held = by .sweeps r (s .held); rotations = omega (arith, by .counts r) })
 
-    pub walk-turned : (n : ℕ) (s : State D) → Turned (walkMoves credit n s) s (applied rules credit n s)
+    pub walk-turned : (n : ℕ) (s : State D) → Turned (walkMoves rules moves credit n s) s (applied rules credit n s)
     unfolding carriedOut applied walkMoves
     walk-turned zero s = record { held = refl; rotations = omega arith }
     walk-turned (suc n) s =
         let e = applied rules credit n s in
         let so-far = walk-turned n s in
         let last = pass-turned e in
-        let ms = walkMoves credit n s in
+        let ms = walkMoves rules moves credit n s in
         record {
           held =
               last .held
-              ∙ ap (carriedOut carry (passMoves e)) (so-far .held)
-              ∙ sym (carriedOut-append carry ms (passMoves e) (s .held));
+              ∙ ap (carriedOut carry (passMoves rules moves e)) (so-far .held)
+              ∙ sym (carriedOut-append carry ms (passMoves rules moves e) (s .held));
           rotations =
-              omega (arith, last .rotations, so-far .rotations, length-append ms (passMoves e));
+              omega (arith, last .rotations, so-far .rotations, length-append ms (passMoves rules moves e));
         }
