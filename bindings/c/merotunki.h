@@ -88,8 +88,8 @@ typedef struct merotunki_answer {
     uint64_t sweeps;
     uint64_t drops;
     uint64_t range;     /* how much of the diagonal is still live: 1 where settled */
-    uint64_t rotations; /* computed by the sweeps: 2 x (r - 1) by a sweep over range r, none by a drop. Battery use
-                         * follows them rather than the passes. One counts once, whether it turns the matrix alone or U
+    uint64_t rotations; /* computed by the sweeps: 2 x (r - 1) by a sweep over range r, none by a drop. A call's
+                         * time goes with them rather than with its passes. One counts once, whether it turns the matrix alone or U
                          * and V as well, and one of (0, b), which takes no root, counts too. At most
                          * 2 x (c - 1) x sweeps, c being the smaller of rows and columns; never above 13,724,000. */
 } merotunki_answer;

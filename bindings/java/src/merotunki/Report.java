@@ -52,8 +52,8 @@ public final class Report {
     /** How much of the diagonal is still live: 1 where settled, above 1 where stopped or quiet. */
     public final int range;
     /**
-     * Rotations computed by the sweeps: 2 x (r - 1) by a sweep over a range of r values, none by a drop. Battery use
-     * follows them rather than the passes. One counts once, with U and V or without. At most 2 x (c - 1) x sweeps, c
+     * Rotations computed by the sweeps: 2 x (r - 1) by a sweep over a range of r values, none by a drop. A call's time
+     * goes with them rather than with its passes. One counts once, with U and V or without. At most 2 x (c - 1) x sweeps, c
      * being the smaller of the survey's stations and passes; never above 13,724,000.
      */
     public final int rotations;
