@@ -1,4 +1,4 @@
--- Any two answers that the promise of a public function allows are equal: `first_refusal`, `lent_refusal`,
+-- Any two answers that the promise of a public function allows are equal: `first_refusal`, `table_refusal`, `lent_refusal`,
 -- `Refusal::by`, `Place::nowhere`, `smaller_size`, `Settings::new`. Assumes nothing.
 use mathlib.Core.Path.{_≡_, sym, ap, _∙_}
 use mathlib.Core.Bool.{Bool}
@@ -9,7 +9,7 @@ use Rattle.method.specs.Work.{Work}
 use Rattle.method.specs.Defaults.{defaults}
 use Rattle.method.specs.Settings as Method
 use Rattle.method.specs.Checks as Checks
-use Rattle.method.specs.Checks.{nowhere, refusal, firstOf, refusalOf}
+use Rattle.method.specs.Checks.{nowhere, refusal, firstOf, tableChecks, refusalOf}
 use Rattle.method.specs.Outcome.{card}
 use Rattle.method.specs.Ordered.{lentChecks}
 use Rattle.checks.specs.declared.settings.Settings.{Settings}
@@ -24,7 +24,7 @@ fromPlace p = record { row = p .row; column = p .column; bad = p .bad }
 abbrev pub fromRefusal : Checks.Refusal → Refusal
 fromRefusal r = record { number = r .number; place = fromPlace (r .place) }
 
-abbrev fromSettings : Method.Settings → Settings
+abbrev pub fromSettings : Method.Settings → Settings
 fromSettings s =
     record {
       limit = s .limit;
@@ -49,6 +49,12 @@ pub refusal-one :
     refusalIn r ≡ refusalOf kept rows cols (settingsOf s) w →
     refusalIn r′ ≡ refusalOf kept rows cols (settingsOf s) w → r ≡ r′
 refusal-one kept rows cols s w r r′ e e′ = ap fromRefusal (e ∙ sym e′)
+
+-- `table_refusal`: number and place
+pub table-refusal-one :
+    (kept : Bool) (rows cols : ℕ) (w : Work) (r r′ : Refusal) →
+    refusalIn r ≡ firstOf (tableChecks kept rows cols w) → refusalIn r′ ≡ firstOf (tableChecks kept rows cols w) → r ≡ r′
+table-refusal-one kept rows cols w r r′ e e′ = ap fromRefusal (e ∙ sym e′)
 
 -- `lent_refusal`: number and place
 pub lent-refusal-one :

@@ -1,5 +1,5 @@
 // The first refusal that applies to a call, looked for before any number is touched; and that of what
-// the ordered call is lent.
+// a call is lent.
 ghost use mathlib.Core.Path.{_≡_};
 ghost use mathlib.Core.Bool.{true, not, _&&_, _||_};
 ghost use lib.Dec.{eqb, ltb};
@@ -146,8 +146,16 @@ fn reading_refusal(b: &[f64], rows: usize, cols: usize) -> Refusal
     Refusal::by(0)
 }
 
-// Of the sizes, and then of the lengths.
-fn table_refusal(b: &[f64], u: &[f64], v: &[f64], kept: bool, rows: usize, cols: usize) -> Refusal
+// The first refusal that applies to what the plain or the accumulating call is lent: of the sizes, and then
+// of the lengths.
+pub fn table_refusal(
+    b: &[f64],
+    u: &[f64],
+    v: &[f64],
+    kept: bool,
+    rows: usize,
+    cols: usize,
+) -> Refusal
     ensures { λ r. ⌜ refusalIn r
         ≡ firstOf (tableChecks kept rows cols (work (now (b .entry)) (now (u .entry)) (now (v .entry)))) ⌝ }
 {

@@ -24,6 +24,7 @@ pub mod Report
 pub mod Outcome
 pub mod Order
 pub mod Ordered
+pub mod Profiles
 pub mod Defaults
 pub mod Cases
 pub mod Lengths

@@ -133,7 +133,7 @@ run-fine c d word e =
     decided true h = refl
     decided false h = absurd (h (λ e. false≢true e))
 
-lent-tests :
+pub lent-tests :
     (rows cols : ℕ) (w : Work) (l : List Float) → Means (lentChecks rows cols w l) (lentMeanings rows cols w l)
 lent-tests rows cols w l =
     means-join (size-tests rows cols)
@@ -198,16 +198,17 @@ module _ (rows cols : ℕ) (s : Settings) (w : Work) (l : List Float) where
     ran = accepted f true rows cols s w
 
     -- what is checked after it, and what that means
-    abbrev after : List Check
-    after = runChecks (card rows cols) (diagonal cols (ran .held .matrix)) (ran .report .word)
+    abbrev pub afterChecks : List Check
+    afterChecks = runChecks (card rows cols) (diagonal cols (ran .held .matrix)) (ran .report .word)
 
     abbrev pub afterMeanings : List Meaning
     afterMeanings = runMeanings (card rows cols) (diagonal cols (ran .held .matrix)) (ran .report .word)
 
-    all-tests : Means (orderedChecks rows cols s w l ++ after) (orderedMeanings rows cols s w l ++ afterMeanings)
-    all-tests =
-        means-join ordered-tests
-        (run-tests (card rows cols) (diagonal cols (ran .held .matrix)) (ran .report .word))
+    pub after-tests : Means afterChecks afterMeanings
+    after-tests = run-tests (card rows cols) (diagonal cols (ran .held .matrix)) (ran .report .word)
+
+    all-tests : Means (orderedChecks rows cols s w l ++ afterChecks) (orderedMeanings rows cols s w l ++ afterMeanings)
+    all-tests = means-join ordered-tests after-tests
 
     -- the number that is put on a run's report is that of the first check after it
     after-number : putInOrder rows cols ran l .run .report .refusal .number ≡ foundAfter rows cols ran l .number
@@ -222,24 +223,24 @@ module _ (rows cols : ℕ) (s : Settings) (w : Work) (l : List Float) where
         go false t = rw (refused-after rows cols ran l (eqb-false _ 0 t)) refl
 
     -- the number that the call answers is that of the first of all checks, before and after
-    ordered-number :
+    pub ordered-number :
         orderedOutcome f rows cols s w l .run .report .refusal .number
-        ≡ firstOf (orderedChecks rows cols s w l ++ after) .number
+        ≡ firstOf (orderedChecks rows cols s w l ++ afterChecks) .number
     ordered-number = go (eqb (orderedRefusal rows cols s w l .number) 0) refl
       where
         go :
             (b : Bool) → eqb (orderedRefusal rows cols s w l .number) 0 ≡ b →
             orderedOutcome f rows cols s w l .run .report .refusal .number
-            ≡ firstOf (orderedChecks rows cols s w l ++ after) .number
+            ≡ firstOf (orderedChecks rows cols s w l ++ afterChecks) .number
         go true t =
             let e = eqb-true _ 0 t in
             rw (ran-on rows cols s w l f e)
             (after-number
-            ∙ ap (λ (x : Refusal). x .number) (first-beyond (orderedChecks rows cols s w l) after refl refl e refl))
+            ∙ ap (λ (x : Refusal). x .number) (first-beyond (orderedChecks rows cols s w l) afterChecks refl refl e refl))
         go false t =
             let h = eqb-false _ 0 t in
             rw (refused-before rows cols s w l f h)
-            (ap (λ (x : Refusal). x .number) (first-here (orderedChecks rows cols s w l) after refl refl h))
+            (ap (λ (x : Refusal). x .number) (first-here (orderedChecks rows cols s w l) afterChecks refl refl h))
 
     -- The number that the call answers is k exactly when k is the number of the first condition that holds, of those
     -- before the run and then of those after it, or when k is 0 and none holds.
