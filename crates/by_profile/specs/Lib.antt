@@ -1,0 +1,3 @@
+-- What the calls by a profile's number owe.
+pub mod Ways
+pub mod Answers
