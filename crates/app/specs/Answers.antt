@@ -11,6 +11,7 @@ use Rattle.method.specs.Fill.{filled, fillOutcome}
 use Rattle.method.specs.Defaults.{defaults}
 use Rattle.method.specs.Outcome.{Outcome, outcomeOf, fullOutcome, plainOutcome}
 use Rattle.method.specs.Ordered.{Ordered, orderedOf, orderedOutcome}
+use Rattle.method.specs.Profiles.{Picked, picked, profilePlain, profileFull, profileOrdered}
 use Rattle.method.specs.Settings.{Settings}
 use Rattle.float.specs.Root.{RootIs}
 use Rattle.float.specs.Answers.{OneAnswer, equated-one}
@@ -18,8 +19,9 @@ use Rattle.factors.specs.Answers as Factors
 use Rattle.app.specs.declared.Answer.{Answer}
 use Rattle.app.specs.declared.Choice.{Choice}
 use Rattle.app.specs.declared.Part.{Part}
+use Rattle.app.specs.declared.ProfileAnswer.{ProfileAnswer}
 use Rattle.app.specs.Values.{answerOf, Answered, answered, told, Listed, listed, toldInOrder}
-use Rattle.app.specs.Values.{chosen, ofChoice, layout}
+use Rattle.app.specs.Values.{chosen, ofChoice, pickedBy, layout}
 use Rattle.app.specs.Row.{partOf}
 
 -- the report of the call beneath, told
@@ -40,56 +42,87 @@ told-one o r r′ w w′ e e′ =
     let d = e ∙ sym e′ in
     (ap (λ (x : Answered). x .answer) d, ap (λ (x : Answered). x .held) d)
 
--- ---- the three calls
+-- ---- the calls, by settings and by a profile's number
+
+-- a call on the table alone, of which o is told
+pub plain-told-one :
+    (o : Answered) (r r′ : Answer) (b b′ : List Float) →
+    answered r (work b [] []) ≡ o → answered r′ (work b′ [] []) ≡ o → (r ≡ r′) × (b ≡ b′)
+plain-told-one o r r′ b b′ e e′ =
+    let one = told-one o r r′ (work b [] []) (work b′ [] []) e e′ in
+    (one .0, ap (λ (w : Work). w .matrix) (one .1))
+
+-- with U and V
+pub full-told-one :
+    (o : Answered) (r r′ : Answer) (b b′ u u′ v v′ : List Float) →
+    answered r (work b u v) ≡ o → answered r′ (work b′ u′ v′) ≡ o → (r ≡ r′) × (b ≡ b′) × (u ≡ u′) × (v ≡ v′)
+full-told-one o r r′ b b′ u u′ v v′ e e′ =
+    let one = told-one o r r′ (work b u v) (work b′ u′ v′) e e′ in
+    let held = one .1 in
+    (one .0, ap (λ (w : Work). w .matrix) held, ap (λ (w : Work). w .u) held, ap (λ (w : Work). w .v) held)
+
+-- and with the list of values
+pub ordered-told-one :
+    (o : Listed) (r r′ : Answer) (b b′ u u′ v v′ l l′ : List Float) →
+    listed (answered r (work b u v)) l ≡ o → listed (answered r′ (work b′ u′ v′)) l′ ≡ o →
+    (r ≡ r′) × (b ≡ b′) × (u ≡ u′) × (v ≡ v′) × (l ≡ l′)
+ordered-told-one o r r′ b b′ u u′ v v′ l l′ e e′ =
+    let told : Listed → Answered = λ x. x .answered in
+    let one = full-told-one (o .answered) r r′ b b′ u u′ v v′ (ap told e) (ap told e′) in
+    (one .0, one .1, one .2, one .3, ap (λ (x : Listed). x .values) (e ∙ sym e′))
 
 module _ (rows cols limit credit : ℕ) (tolerance absolute floor : Float) where
-  -- what is told of the table b₀ alone, of b₀, u₀ and v₀, and with the list l₀
-  abbrev plainTold : List Float → Answered
-  plainTold b₀ = told (plainOutcome binary64 rows cols (chosen limit credit tolerance absolute floor) b₀)
-
-  abbrev fullTold : List Float → List Float → List Float → Answered
-  fullTold b₀ u₀ v₀ =
-      told (fullOutcome binary64 rows cols (chosen limit credit tolerance absolute floor) (work b₀ u₀ v₀))
-
-  abbrev orderedTold : List Float → List Float → List Float → List Float → Listed
-  orderedTold b₀ u₀ v₀ l₀ =
-      toldInOrder
-      (orderedOutcome binary64 rows cols (chosen limit credit tolerance absolute floor) (work b₀ u₀ v₀) l₀)
+  abbrev s : Settings
+  s = chosen limit credit tolerance absolute floor
 
   -- `merotunki_svd`
   pub svd-one :
       (b₀ : List Float) (r r′ : Answer) (b b′ : List Float) →
-      answered r (work b [] []) ≡ plainTold b₀ → answered r′ (work b′ [] []) ≡ plainTold b₀ → (r ≡ r′) × (b ≡ b′)
-  svd-one b₀ r r′ b b′ e e′ =
-      let one = told-one (plainTold b₀) r r′ (work b [] []) (work b′ [] []) e e′ in
-      (one .0, ap (λ (w : Work). w .matrix) (one .1))
+      answered r (work b [] []) ≡ told (plainOutcome binary64 rows cols s b₀) →
+      answered r′ (work b′ [] []) ≡ told (plainOutcome binary64 rows cols s b₀) →
+      (r ≡ r′) × (b ≡ b′)
+  svd-one b₀ = plain-told-one (told (plainOutcome binary64 rows cols s b₀))
 
   -- `merotunki_full_svd`
   pub full-svd-one :
-      (b₀ u₀ v₀ : List Float) (r r′ : Answer) (b b′ u u′ v v′ : List Float) →
-      answered r (work b u v) ≡ fullTold b₀ u₀ v₀ → answered r′ (work b′ u′ v′) ≡ fullTold b₀ u₀ v₀ →
+      (w₀ : Work) (r r′ : Answer) (b b′ u u′ v v′ : List Float) →
+      answered r (work b u v) ≡ told (fullOutcome binary64 rows cols s w₀) →
+      answered r′ (work b′ u′ v′) ≡ told (fullOutcome binary64 rows cols s w₀) →
       (r ≡ r′) × (b ≡ b′) × (u ≡ u′) × (v ≡ v′)
-  full-svd-one b₀ u₀ v₀ r r′ b b′ u u′ v v′ e e′ =
-      let one = told-one (fullTold b₀ u₀ v₀) r r′ (work b u v) (work b′ u′ v′) e e′ in
-      let held = one .1 in
-      (one .0, ap (λ (w : Work). w .matrix) held, ap (λ (w : Work). w .u) held, ap (λ (w : Work). w .v) held)
+  full-svd-one w₀ = full-told-one (told (fullOutcome binary64 rows cols s w₀))
 
   -- `merotunki_ordered_svd`
   pub ordered-svd-one :
-      (b₀ u₀ v₀ l₀ : List Float) (r r′ : Answer) (b b′ u u′ v v′ l l′ : List Float) →
-      listed (answered r (work b u v)) l ≡ orderedTold b₀ u₀ v₀ l₀ →
-      listed (answered r′ (work b′ u′ v′)) l′ ≡ orderedTold b₀ u₀ v₀ l₀ →
+      (w₀ : Work) (l₀ : List Float) (r r′ : Answer) (b b′ u u′ v v′ l l′ : List Float) →
+      listed (answered r (work b u v)) l ≡ toldInOrder (orderedOutcome binary64 rows cols s w₀ l₀) →
+      listed (answered r′ (work b′ u′ v′)) l′ ≡ toldInOrder (orderedOutcome binary64 rows cols s w₀ l₀) →
       (r ≡ r′) × (b ≡ b′) × (u ≡ u′) × (v ≡ v′) × (l ≡ l′)
-  ordered-svd-one b₀ u₀ v₀ l₀ r r′ b b′ u u′ v v′ l l′ e e′ =
-      let told : Listed → Answered = λ x. x .answered in
-      let one = told-one (orderedTold b₀ u₀ v₀ l₀ .answered) r r′ (work b u v) (work b′ u′ v′) (ap told e) (ap told e′) in
-      let held = one .1 in (
-        one .0,
-        ap (λ (w : Work). w .matrix) held,
-        ap (λ (w : Work). w .u) held,
-        ap (λ (w : Work). w .v) held,
-        ap (λ (x : Listed). x .values) (e ∙ sym e′),
-      )
+  ordered-svd-one w₀ l₀ = ordered-told-one (toldInOrder (orderedOutcome binary64 rows cols s w₀ l₀))
+
+module _ (rows cols k : ℕ) where
+  -- `merotunki_profile_svd`
+  pub profile-svd-one :
+      (b₀ : List Float) (r r′ : Answer) (b b′ : List Float) →
+      answered r (work b [] []) ≡ told (profilePlain binary64 rows cols k b₀) →
+      answered r′ (work b′ [] []) ≡ told (profilePlain binary64 rows cols k b₀) →
+      (r ≡ r′) × (b ≡ b′)
+  profile-svd-one b₀ = plain-told-one (told (profilePlain binary64 rows cols k b₀))
+
+  -- `merotunki_profile_full_svd`
+  pub profile-full-svd-one :
+      (w₀ : Work) (r r′ : Answer) (b b′ u u′ v v′ : List Float) →
+      answered r (work b u v) ≡ told (profileFull binary64 rows cols k w₀) →
+      answered r′ (work b′ u′ v′) ≡ told (profileFull binary64 rows cols k w₀) →
+      (r ≡ r′) × (b ≡ b′) × (u ≡ u′) × (v ≡ v′)
+  profile-full-svd-one w₀ = full-told-one (told (profileFull binary64 rows cols k w₀))
+
+  -- `merotunki_profile_ordered_svd`
+  pub profile-ordered-svd-one :
+      (w₀ : Work) (l₀ : List Float) (r r′ : Answer) (b b′ u u′ v v′ l l′ : List Float) →
+      listed (answered r (work b u v)) l ≡ toldInOrder (profileOrdered binary64 rows cols k w₀ l₀) →
+      listed (answered r′ (work b′ u′ v′)) l′ ≡ toldInOrder (profileOrdered binary64 rows cols k w₀ l₀) →
+      (r ≡ r′) × (b ≡ b′) × (u ≡ u′) × (v ≡ v′) × (l ≡ l′)
+  profile-ordered-svd-one w₀ l₀ = ordered-told-one (toldInOrder (profileOrdered binary64 rows cols k w₀ l₀))
 
 -- ---- the others
 
@@ -122,6 +155,22 @@ fromSettings s =
 -- `merotunki_defaults`
 pub defaults-one : OneAnswer (λ (r : Choice). ofChoice r ≡ defaults)
 defaults-one r r′ e e′ = ap fromSettings (e ∙ sym e′)
+
+-- what was picked, by what it stands for
+abbrev fromPicked : Picked → ProfileAnswer
+fromPicked p =
+    record {
+      number = p .number;
+      limit = p .settings .limit;
+      credit = p .settings .credit;
+      tolerance = p .settings .tolerance;
+      absolute = p .settings .absolute;
+      floor = p .settings .floor;
+    }
+
+-- `merotunki_profile`
+pub profile-one : (k : ℕ) → OneAnswer (λ (r : ProfileAnswer). pickedBy r ≡ picked binary64 k)
+profile-one k r r′ e e′ = ap fromPicked (e ∙ sym e′)
 
 -- `merotunki_layout`
 pub layout-one : OneAnswer (λ (r : ℕ). r ≡ layout)

@@ -7,8 +7,10 @@ use Rattle.method.specs.Settings.{Settings}
 use Rattle.method.specs.Report as Report
 use Rattle.method.specs.Outcome.{Outcome}
 use Rattle.method.specs.Ordered.{Ordered}
+use Rattle.method.specs.Profiles.{Picked, pickedOf}
 use Rattle.app.specs.declared.Answer.{Answer}
 use Rattle.app.specs.declared.Choice.{Choice}
+use Rattle.app.specs.declared.ProfileAnswer.{ProfileAnswer}
 
 -- the report
 abbrev pub answerOf : Report.Report → Answer
@@ -58,6 +60,10 @@ chosen limit credit tolerance absolute floor =
 -- the settings that a choice stands for
 abbrev pub ofChoice : Choice → Settings
 ofChoice c = chosen (c .limit) (c .credit) (c .tolerance) (c .absolute) (c .floor)
+
+-- what a profile's number picked
+abbrev pub pickedBy : ProfileAnswer → Picked
+pickedBy p = pickedOf (p .number) (chosen (p .limit) (p .credit) (p .tolerance) (p .absolute) (p .floor))
 
 -- which layout of the structs that cross the border this is: it rises by one whenever one of them changes
 abbrev pub layout : ℕ

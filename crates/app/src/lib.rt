@@ -2,10 +2,14 @@
 // one after the other. Each promise is that of the call beneath it: nothing is asked of the caller
 // but that the pointers are good, what is unfit is refused by number, and a call that is refused before
 // its run writes nothing.
+use by_profile::profile_full_svd_decomposition;
+use by_profile::profile_ordered_svd_decomposition;
+use by_profile::profile_svd_decomposition;
 use checks::settings::Settings;
 use factors::identity::identity_flat;
 use factors::view::row_view;
 use order::ordered::ordered_svd_decomposition;
+use profiles::pick;
 use svd::interface::full_svd_decomposition;
 use svd::interface::svd_decomposition;
 use svd::report::Report;
@@ -18,11 +22,12 @@ ghost use Rattle.method.specs.Defaults.{defaults};
 ghost use Rattle.method.specs.Fill.{filled, fillOutcome};
 ghost use Rattle.method.specs.Outcome.{fullOutcome, plainOutcome};
 ghost use Rattle.method.specs.Ordered.{orderedOutcome};
+ghost use Rattle.method.specs.Profiles.{picked, profilePlain, profileFull, profileOrdered};
 ghost use Rattle.float.specs.Root.{RootIs};
 ghost use Rattle.checks.specs.Values.{settingsOf};
 ghost use Rattle.svd.specs.Values.{reportOf};
 ghost use Rattle.app.specs.Values.{answerOf, answered, told, listed, toldInOrder};
-ghost use Rattle.app.specs.Values.{chosen, ofChoice, layout};
+ghost use Rattle.app.specs.Values.{chosen, ofChoice, pickedBy, layout};
 ghost use Rattle.app.specs.Row.{partOf};
 
 // What a call answers. With number 8 the row and the column are those of the first reading that is
@@ -53,6 +58,17 @@ pub struct Part {
 // The five settings.
 #[repr(C)]
 pub struct Choice {
+    pub limit: u64,
+    pub credit: u64,
+    pub tolerance: f64,
+    pub absolute: f64,
+    pub floor: f64,
+}
+
+// What a profile's number picks: 0 and its five settings, or 10 and zeros where there is no such profile.
+#[repr(C)]
+pub struct ProfileAnswer {
+    pub number: u64,
     pub limit: u64,
     pub credit: u64,
     pub tolerance: f64,
@@ -161,6 +177,77 @@ pub extern "C" fn merotunki_ordered_svd(
     let settings = choose(limit, credit, tolerance, absolute, floor);
     let report = ordered_svd_decomposition(matrix, u, v, values, rows, cols, settings);
     tell(report)
+}
+
+// The split of the table alone, with the settings of a profile: 1 is a vane's, 2 a hot wire's, 3 an
+// ultrasonic anemometer's, 4 a smoke tube's. Any other number is refused by 10, in the place of 6 and 7.
+#[no_mangle]
+pub extern "C" fn merotunki_profile_svd(
+    matrix: &mut [f64],
+    rows: usize,
+    cols: usize,
+    profile: usize,
+) -> Answer
+    ensures { λ r. ⌜ answered r (work (now (matrix .exit)) [] [])
+        ≡ told (profilePlain binary64 rows cols profile (now (matrix .entry))) ⌝ }
+{
+    let report = profile_svd_decomposition(matrix, rows, cols, profile);
+    tell(report)
+}
+
+// The same with U and V kept.
+#[no_mangle]
+pub extern "C" fn merotunki_profile_full_svd(
+    matrix: &mut [f64],
+    u: &mut [f64],
+    v: &mut [f64],
+    rows: usize,
+    cols: usize,
+    profile: usize,
+) -> Answer
+    ensures { λ r. ⌜ answered r (work (now (matrix .exit)) (now (u .exit)) (now (v .exit)))
+        ≡ told (profileFull binary64 rows cols profile
+        (work (now (matrix .entry)) (now (u .entry)) (now (v .entry)))) ⌝ }
+{
+    let report = profile_full_svd_decomposition(matrix, u, v, rows, cols, profile);
+    tell(report)
+}
+
+// The same with U and V kept, and its values in a list, largest first.
+#[no_mangle]
+pub extern "C" fn merotunki_profile_ordered_svd(
+    matrix: &mut [f64],
+    u: &mut [f64],
+    v: &mut [f64],
+    values: &mut [f64],
+    rows: usize,
+    cols: usize,
+    profile: usize,
+) -> Answer
+    ensures { λ r. ⌜ listed (answered r (work (now (matrix .exit)) (now (u .exit)) (now (v .exit))))
+        (now (values .exit))
+        ≡ toldInOrder (profileOrdered binary64 rows cols profile
+        (work (now (matrix .entry)) (now (u .entry)) (now (v .entry))) (now (values .entry))) ⌝ }
+{
+    let report = profile_ordered_svd_decomposition(matrix, u, v, values, rows, cols, profile);
+    tell(report)
+}
+
+// The settings of a profile.
+#[no_mangle]
+pub extern "C" fn merotunki_profile(profile: usize) -> ProfileAnswer
+    ensures { λ r. ⌜ pickedBy r ≡ picked binary64 profile ⌝ }
+{
+    let picked = pick(profile);
+    let settings = picked.settings;
+    ProfileAnswer {
+        number: picked.number as u64,
+        limit: settings.limit as u64,
+        credit: settings.credit as u64,
+        tolerance: settings.tolerance,
+        absolute: settings.absolute,
+        floor: settings.floor,
+    }
 }
 
 // Fills a with the identity of n rows and n columns. Answers 0, or the number of a refusal, which
