@@ -11,6 +11,9 @@ use crate::stored::read_answer;
 use crate::stored::read_head;
 use crate::stored::read_list;
 use crate::stored::report_agrees;
+use by_profile::profile_full_svd_decomposition;
+use by_profile::profile_ordered_svd_decomposition;
+use by_profile::profile_svd_decomposition;
 use order::ordered::ordered_svd_decomposition;
 use svd::interface::full_svd_decomposition;
 use svd::interface::svd_decomposition;
@@ -18,11 +21,13 @@ use svd::report::Report;
 ghost use mathlib.Core.Path.{_≡_};
 ghost use lib.ListN.{length};
 
-// What a run came to: whether it is wrong on purpose, whether it agrees, what the accumulating call
-// answered, or the plain one where that alone is made, and whether the ordered call put values in
-// order. A wrong run agrees where not as many of its calls differ as are to.
+// What a run came to: whether it is wrong on purpose, whether it was made by a profile, whether it
+// agrees, what the accumulating call answered, or the plain one where that alone is made, and whether
+// the ordered call put values in order. A wrong run agrees where not as many of its calls differ as are
+// to.
 pub(crate) struct Made {
     pub(crate) wrong: bool,
+    pub(crate) by: bool,
     pub(crate) agrees: bool,
     pub(crate) report: Report,
     pub(crate) in_order: bool,
@@ -78,6 +83,7 @@ fn judged(head: Head, both: Both, ordered: bool, in_order: bool) -> Made {
     let as_told = differing(first.agrees, both.beside, ordered) == head.differ;
     Made {
         wrong,
+        by: head.by,
         agrees: as_told != wrong,
         report,
         in_order,
@@ -94,10 +100,50 @@ fn copy_lists(b: &[f64], u: &[f64], v: &[f64], c: &mut [f64], cu: &mut [f64], cv
     copy(v, cv);
 }
 
+// The plain call, by settings or by a profile.
+fn call_plain(b: &mut [f64], head: Head) -> Report {
+    if head.by {
+        return profile_svd_decomposition(b, head.rows, head.cols, head.profile);
+    }
+    let settings = head.settings;
+    svd_decomposition(b, head.rows, head.cols, settings)
+}
+
+// The accumulating one.
+fn call_full(b: &mut [f64], u: &mut [f64], v: &mut [f64], head: Head) -> Report {
+    if head.by {
+        return profile_full_svd_decomposition(b, u, v, head.rows, head.cols, head.profile);
+    }
+    let settings = head.settings;
+    full_svd_decomposition(b, u, v, head.rows, head.cols, settings)
+}
+
+// The ordered one.
+fn call_ordered(
+    b: &mut [f64],
+    u: &mut [f64],
+    v: &mut [f64],
+    values: &mut [f64],
+    head: Head,
+) -> Report {
+    if head.by {
+        return profile_ordered_svd_decomposition(
+            b,
+            u,
+            v,
+            values,
+            head.rows,
+            head.cols,
+            head.profile,
+        );
+    }
+    let settings = head.settings;
+    ordered_svd_decomposition(b, u, v, values, head.rows, head.cols, settings)
+}
+
 // The plain call on b, which is to leave what b2 holds.
 fn plain(b: &mut [f64], b2: &[f64], head: Head, answer: &Answer) -> Call {
-    let settings = head.settings;
-    let report = svd_decomposition(b, head.rows, head.cols, settings);
+    let report = call_plain(b, head);
     let agrees = report_agrees(report, answer) && same(b, b2);
     Call { agrees, report }
 }
@@ -127,8 +173,7 @@ fn full(
     head: Head,
     answer: &Answer,
 ) -> Call {
-    let settings = head.settings;
-    let report = full_svd_decomposition(b, u, v, head.rows, head.cols, settings);
+    let report = call_full(b, u, v, head);
     let agrees = report_agrees(report, answer) && same(b, b2) && same(u, u2) && same(v, v2);
     Call { agrees, report }
 }
@@ -146,8 +191,7 @@ fn ordered(
     head: Head,
     answer: &Answer,
 ) -> Call {
-    let settings = head.settings;
-    let report = ordered_svd_decomposition(b, u, v, values, head.rows, head.cols, settings);
+    let report = call_ordered(b, u, v, values, head);
     let agrees = report_agrees(report, answer)
         && same(b, b2)
         && same(u, u2)

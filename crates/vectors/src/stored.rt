@@ -1,15 +1,17 @@
 // How a run is stored. Words of 8 bytes, the lowest byte first; a double is the word of its bits:
 //   rows, columns, limit, credit, tolerance, absolute, floor,
-//   kept: 0 for the plain call, 1 for the accumulating one beside it, 2 for the ordered one as well,
+//   kept: 0 for the plain call, 1 for the accumulating one beside it, 2 for the ordered one as well; 3,
+//     4 and 5 for the same by a profile, whose number stands in the place of the limit, with 0 for
+//     the four other settings,
 //   start: 0 where U and V start as the identity, or there are none; 1 where they are stored,
-//   how long matrix, U, V and the list of values are, each at most 49 x 49; with kept 0, U and V have
-//     length 0, and with kept 0 or 1 the list of values has;
+//   how long matrix, U, V and the list of values are, each at most 49 x 49; with kept 0 or 3, U and V
+//     have length 0, and with kept 0, 1, 3 or 4 the list of values has;
 //   differ: how many of the run's calls have to differ from what follows; 0, or 1 to 3 where the run
 //     is wrong on purpose;
 //   the matrix, and with start 1, U and V; the list of values is not stored;
 //   the answer: the report's words, in the order of `words_of`;
 //   with number 0 the matrix, U and V afterwards; else they are as they were;
-//   with kept 2 the ordered call's answer likewise;
+//   with kept 2 or 5 the ordered call's answer likewise;
 //   with number 0 the list of values, U and V after it, where the matrix is the accumulating call's;
 //   with 12 or 13 matrix, U and V are the accumulating call's; else they are as they were.
 use crate::bits::decode;
@@ -26,6 +28,10 @@ pub(crate) struct Head {
     pub(crate) rows: usize,
     pub(crate) cols: usize,
     pub(crate) settings: Settings,
+    // Whether the calls are made by a profile's number, and that number.
+    pub(crate) by: bool,
+    pub(crate) profile: usize,
+    // 0, 1 or 2, by settings or by a profile.
     pub(crate) kept: u64,
     pub(crate) start: u64,
     pub(crate) matrix: usize,
@@ -84,11 +90,15 @@ fn head_of(bytes: &[u8]) -> Head
     requires { ⌜ 112 ≤ length (now bytes) ⌝ }
 {
     let settings = settings_of(bytes);
+    let stored = word(bytes, 56);
+    let by = stored > 2;
     Head {
         rows: word(bytes, 0) as usize,
         cols: word(bytes, 8) as usize,
         settings: settings,
-        kept: word(bytes, 56),
+        by: by,
+        profile: settings.limit,
+        kept: if by { stored - 3 } else { stored },
         start: word(bytes, 64),
         matrix: word(bytes, 72) as usize,
         u: word(bytes, 80) as usize,
@@ -133,9 +143,17 @@ pub(crate) fn report_agrees(report: Report, answer: &Answer) -> bool {
     true
 }
 
+// Whether only the limit's word is used of the settings, as it is for a profile's number.
+fn one_word(s: Settings) -> bool {
+    s.credit == 0 && s.tolerance == 0.0 && s.absolute == 0.0 && s.floor == 0.0
+}
+
 // Whether a head is one that is stored: the plain call has no U and V, and only the ordered one has a
-// list of values.
+// list of values; with a profile there are no settings.
 fn is_fit(head: Head) -> bool {
+    if head.by && !one_word(head.settings) {
+        return false;
+    }
     if head.kept == 0 {
         return head.start == 0 && head.u == 0 && head.v == 0 && head.values == 0;
     }

@@ -15,6 +15,7 @@ pub(crate) struct Totals {
     quiet: u64,
     passes: u64,
     in_order: u64,
+    by_profile: u64,
 }
 
 // The sum, or the largest number where it would be above that.
@@ -41,6 +42,7 @@ impl Totals {
             quiet: 0,
             passes: 0,
             in_order: 0,
+            by_profile: 0,
         }
     }
 
@@ -57,7 +59,7 @@ impl Totals {
         if made.wrong {
             totals
         } else {
-            totals.answered(report, made.in_order)
+            totals.answered(report, made.in_order, made.by)
         }
     }
 
@@ -76,10 +78,14 @@ impl Totals {
         self
     }
 
-    // The same, of which the library answered this, and put its values in order or not.
-    fn answered(mut self, report: Report, in_order: bool) -> Totals {
+    // The same, of which the library answered this, and put its values in order or not, by a profile or
+    // not.
+    fn answered(mut self, report: Report, in_order: bool, by: bool) -> Totals {
         if in_order {
             self.in_order = plus(self.in_order, 1);
+        }
+        if by {
+            self.by_profile = plus(self.by_profile, 1);
         }
         self.passes = plus(self.passes, report.tally.passes as u64);
         let word = report.word;
@@ -105,8 +111,8 @@ impl Totals {
         self.scored(wrong, false).ended()
     }
 
-    // A line such as "9 runs: 2 refused, 4 settled, 2 stopped, 1 quiet, 70 passes, 3 in order, 0
-    // differ; 5 wrong on purpose, 5 found".
+    // A line such as "9 runs: 2 refused, 4 settled, 2 stopped, 1 quiet, 70 passes, 3 in order, 2 by
+    // profile, 0 differ; 5 wrong on purpose, 5 found".
     pub(crate) fn print(self) {
         let score = self.score;
         print(score.right, b" runs: ");
@@ -116,6 +122,7 @@ impl Totals {
         print(self.quiet, b" quiet, ");
         print(self.passes, b" passes, ");
         print(self.in_order, b" in order, ");
+        print(self.by_profile, b" by profile, ");
         print(score.differ, b" differ; ");
         print(score.wrong, b" wrong on purpose, ");
         print(score.found, b" found\n");
