@@ -308,7 +308,9 @@ fn by_profile_is_with_its_settings() {
                 words[answer.word as usize] += 1;
                 let c = l.rows.min(l.columns) as u64;
                 let most = if c > 1 { limit + credit * (c - 2) } else { 0 };
-                assert!(answer.passes <= most && answer.rotations <= 2 * c * most);
+                assert!(
+                    answer.passes <= most && answer.rotations <= 2 * c.saturating_sub(1) * most
+                );
             }
         };
         let made = |rows: usize, columns: usize, m: Vec<f64>, seed: usize| Lent {
