@@ -23,9 +23,9 @@
  *  12  the run did not settle: it stopped or is quiet, so that its values are not final
  *  13  the run settled, and a value on the diagonal is infinite or NaN
  * Only the calls by profile number have 10. They have it in the place of 6 and 7, which never come from them: every
- * profile's settings are fit. 11, 12 and 13 are the two ordered calls' alone. 12 and 13 are the one exception to what a refusal
- * writes: they come after the run, so matrix, U and V are as the run leaves them, and the answer has the run's word and
- * counts. The list of values is as it was.
+ * profile's settings are fit. 11, 12 and 13 are the two ordered calls' alone. 12 and 13 are the one exception to what a
+ * refusal writes: they come after the run, so matrix, U and V are as the run leaves them, and the answer has the run's
+ * word and counts. The list of values is as it was.
  *
  * WHAT A C CALLER SEES TO, since no library can check it:
  *   - Each pointer is good for as many entries as the length after it says, and aligned as its type is. A pointer with
