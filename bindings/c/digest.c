@@ -1,10 +1,11 @@
 /* digest.c: one number for what the plain and the accumulating call answer and leave on tables drawn by a fixed rule,
- * and one for what the ordered call does on the same, so that two builds of the library can be held side by side: where
- * they print the same numbers, they gave the same bits, all NaNs alike.
+ * one for what the ordered call does on the same, and one for what the three calls by profile number do, so that two
+ * builds of the library can be held side by side: where they print the same numbers, they gave the same bits, all NaNs
+ * alike.
  *
  * Tables have every shape up to 48 x 48, small ones more often; readings are ordinary, tiny, huge, whole, zeros among
  * them, repeated rows, any bits, or infinities and NaNs among them; limits, credits and bounds are the defaults or
- * drawn, and some calls are unfit. */
+ * drawn, and some calls are unfit. The profiles go round from 0, which there is not, to 4. */
 #include "merotunki.h"
 
 #include <math.h>
@@ -40,7 +41,7 @@ static double reading(size_t kind) {
 }
 
 #define EMPTY 1469598103934665603u
-static uint64_t two_calls = EMPTY, in_order = EMPTY, *digest;
+static uint64_t two_calls = EMPTY, in_order = EMPTY, by_profile = EMPTY, *digest;
 static void word(uint64_t w) {
     for (int i = 0; i < 8; i++, w >>= 8) *digest = (*digest ^ (w & 255)) * 1099511628211u;
 }
@@ -56,10 +57,32 @@ static void told(const merotunki_answer *a) {
     word(a->word), word(a->passes), word(a->sweeps), word(a->drops), word(a->range), word(a->rotations);
 }
 
+/* The three calls by profile number on copies of one table, U and V. */
+static size_t by_number(const double *table, const double *from_u, const double *from_v, size_t rows, size_t cols,
+                        size_t profile) {
+    static double b[MOST * MOST], u[MOST * MOST], v[MOST * MOST], values[MOST];
+    const size_t bl = rows * cols, ul = rows * rows, vl = cols * cols, wl = rows < cols ? rows : cols;
+    size_t accepted = 0;
+    merotunki_answer a;
+    digest = &by_profile;
+    memcpy(b, table, bl * sizeof *b);
+    told(merotunki_profile_svd(&a, b, bl, rows, cols, profile)), list(b, bl);
+    accepted += a.number == 0;
+    memcpy(b, table, bl * sizeof *b), memcpy(u, from_u, ul * sizeof *u), memcpy(v, from_v, vl * sizeof *v);
+    told(merotunki_profile_full_svd(&a, b, bl, u, ul, v, vl, rows, cols, profile));
+    list(b, bl), list(u, ul), list(v, vl);
+    accepted += a.number == 0;
+    memcpy(b, table, bl * sizeof *b), memcpy(u, from_u, ul * sizeof *u), memcpy(v, from_v, vl * sizeof *v);
+    for (size_t i = 0; i < wl; i++) values[i] = (double)i;
+    told(merotunki_profile_ordered_svd(&a, b, bl, u, ul, v, vl, values, wl, rows, cols, profile));
+    list(b, bl), list(u, ul), list(v, vl), list(values, wl);
+    return accepted + (a.number == 0);
+}
+
 int main(void) {
     static double b[MOST * MOST], c[MOST * MOST], d[MOST * MOST], u[MOST * MOST], v[MOST * MOST];
     static double ordered_u[MOST * MOST], ordered_v[MOST * MOST], values[MOST];
-    size_t accepted = 0, ordered = 0;
+    size_t accepted = 0, ordered = 0, by_profiles = 0;
     for (int k = 0; k < TABLES; k++) {
         size_t most = below(8) ? 12 : MOST, rows = 1 + below(most), cols = 1 + below(most), kind = below(10);
         size_t bl = rows * cols, ul = rows * rows, vl = cols * cols, wl = rows < cols ? rows : cols;
@@ -80,6 +103,7 @@ int main(void) {
         merotunki_identity(v, vl, cols);
         if (!below(4))
             for (size_t i = 0; i < ul; i++) u[i] = ordinary();
+        by_profiles += by_number(b, u, v, rows, cols, (size_t)k % 5);
         memcpy(ordered_u, u, ul * sizeof *u);
         memcpy(ordered_v, v, vl * sizeof *v);
         for (size_t i = 0; i < wl; i++) values[i] = (double)i;
@@ -96,7 +120,8 @@ int main(void) {
         accepted += full.number == 0;
         ordered += sorted.number == 0;
     }
-    printf("%d tables, %d accepted, digest %016llx; %d put in order, digest %016llx\n", TABLES, (int)accepted,
+    printf("%d tables, %d accepted, digest %016llx; %d put in order, digest %016llx; ", TABLES, (int)accepted,
            (unsigned long long)two_calls, (int)ordered, (unsigned long long)in_order);
+    printf("%d calls by profile number accepted, digest %016llx\n", (int)by_profiles, (unsigned long long)by_profile);
     return 0;
 }

@@ -8,7 +8,7 @@
  * columns x columns entries and goes with the passes. Sizes are 1 to 48 each.
  *
  * REFUSALS. Any numbers may be handed in. What is unfit is refused by number, checked in this order; nothing else is
- * refused, and a call refused by 1 to 8 or 11 writes nothing but its answer:
+ * refused, and a call refused by 1 to 8, 10 or 11 writes nothing but its answer:
  *   0  accepted
  *   1  rows or columns is 0
  *   2  rows or columns is above 48
@@ -18,12 +18,14 @@
  *  11  the list of values has not as many entries as the smaller of rows and columns
  *   6  the limit is above 100,000 or the credit above 1,000
  *   7  tolerance or absolute is below zero, infinite or NaN (-0 is allowed), or floor is not above zero or not finite
+ *  10  there is no such profile: its number is not 1 to 4
  *   8  a reading is infinite or NaN: `row` and `column` are the first one's station and pass, `bad` counts them all
  *  12  the run did not settle: it stopped or is quiet, so that its values are not final
  *  13  the run settled, and a value on the diagonal is infinite or NaN
- * 11, 12 and 13 are merotunki_ordered_svd's alone. 12 and 13 are the one exception to what a refusal writes: they come
- * after the run, so matrix, U and V are as the run leaves them, and the answer has the run's word and counts. The list
- * of values is as it was.
+ * Only the calls by profile number have 10. They have it in the place of 6 and 7, which never come from them: every
+ * profile's settings are fit. 11, 12 and 13 are the two ordered calls' alone. 12 and 13 are the one exception to what a
+ * refusal writes: they come after the run, so matrix, U and V are as the run leaves them, and the answer has the run's
+ * word and counts. The list of values is as it was.
  *
  * WHAT A C CALLER SEES TO, since no library can check it:
  *   - Each pointer is good for as many entries as the length after it says, and aligned as its type is. A pointer with
@@ -32,7 +34,7 @@
  *   - The thread's floating point is as C starts it: round to nearest, subnormal numbers kept (no flush to zero).
  *
  * MEMORY AND THREADS. No heap, no global state, no locks, no files; of other libraries memcpy and memset alone (on
- * iOS bzero) are called. Several threads may call at once, each on buffers of its own. merotunki_ordered_svd uses less
+ * iOS bzero) are called. Several threads may call at once, each on buffers of its own. The two ordered calls use less
  * than 3,072 bytes of stack, every other call less than 2,048: measured on x86-64, at most 2,768 and 1,920; added up
  * from the machine code for 64-bit Arm, 2,704 and 1,824. On 64-bit Arm x18 is left alone: a caller built with a shadow
  * call stack keeps it.
@@ -55,13 +57,29 @@ extern "C" {
 
 /* The version of library and header, and the number of the layout of the structs below. The layout rises whenever a
  * struct changes, so that a program built for one is not run on another. */
-#define MEROTUNKI_VERSION "0.6.0"
+#define MEROTUNKI_VERSION "0.7.0"
 #define MEROTUNKI_LAYOUT 3
 
 /* The largest number of rows and of columns, and the largest limit and credit. */
 #define MEROTUNKI_MOST 48
 #define MEROTUNKI_MOST_LIMIT 100000
 #define MEROTUNKI_MOST_CREDIT 1000
+
+/* The instruments, each with the number of its profile, for the calls by profile number. The surveyor picks the
+ * instrument, and the program hands on its number; its settings are the library's own. merotunki_profile tells them:
+ *
+ *       instrument   limit   credit   tolerance   absolute   floor   most passes   most rotations, both at 48 x 48
+ *   1   vane           100       50   1e-10       1e-12      1e-21         2,400   225,600
+ *   2   hot wire       200       50   1e-12       1e-13      1e-21         2,500   235,000
+ *   3   ultrasonic     400      100   1e-13       1e-14      1e-21         5,000   470,000
+ *   4   smoke tube      50       25   1e-6        1e-8       1e-21         1,200   112,800
+ *
+ * The vane's are the default settings. Passes are at most limit + credit x (c - 2), c being the smaller of rows and
+ * columns, for c = 2 on; rotations are at most 2 x (c - 1) x as many. */
+#define MEROTUNKI_VANE 1       /* vane anemometer */
+#define MEROTUNKI_HOT_WIRE 2   /* hot wire anemometer */
+#define MEROTUNKI_ULTRASONIC 3 /* ultrasonic anemometer */
+#define MEROTUNKI_SMOKE_TUBE 4 /* smoke tube */
 
 /* The words of an answer. The couplings are the entries beside the diagonal, right of it where columns is at most rows,
  * else below it; the live corner, which is the first `range` rows and columns, has range - 1 of them. A settled answer
@@ -79,7 +97,7 @@ extern "C" {
 /* What a split answers. row, column and bad are 0 but with number 8. The words after them are 0 in a refusal; with 12
  * and 13 they are the run's. */
 typedef struct merotunki_answer {
-    uint64_t number; /* 0 accepted, 1 to 8 and 11 to 13 refused */
+    uint64_t number; /* 0 accepted, 1 to 8 and 10 to 13 refused */
     uint64_t row;    /* station of the first reading that is infinite or NaN, row by row, counted from 0 */
     uint64_t column; /* its pass, counted from 0 */
     uint64_t bad;    /* how many such readings the whole matrix has, the first one too */
@@ -109,9 +127,20 @@ typedef struct merotunki_choice {
     double floor;
 } merotunki_choice;
 
+/* What merotunki_profile answers: the settings of a profile. Where number is 10 all else is 0. */
+typedef struct merotunki_profile_answer {
+    uint64_t number; /* 0, or 10: there is no such profile */
+    uint64_t limit;
+    uint64_t credit;
+    double tolerance;
+    double absolute;
+    double floor;
+} merotunki_profile_answer;
+
 /* Does not compile where the structs or the lengths are laid out otherwise than the library has them. */
 typedef char merotunki_answer_has_80_bytes[sizeof(merotunki_answer) == 80 ? 1 : -1];
 typedef char merotunki_choice_has_40_bytes[sizeof(merotunki_choice) == 40 ? 1 : -1];
+typedef char merotunki_profile_answer_has_48_bytes[sizeof(merotunki_profile_answer) == 48 ? 1 : -1];
 typedef char merotunki_part_has_16_bytes[sizeof(merotunki_part) == 16 ? 1 : -1];
 typedef char merotunki_length_has_8_bytes[sizeof(size_t) == 8 && sizeof(double) == 8 ? 1 : -1];
 
@@ -145,6 +174,26 @@ merotunki_answer *merotunki_ordered_svd(merotunki_answer *answer, double *matrix
                                         size_t u_length, double *v, size_t v_length, double *values,
                                         size_t values_length, size_t rows, size_t columns, size_t limit, size_t credit,
                                         double tolerance, double absolute, double floor);
+
+/* The three splits by profile number, MEROTUNKI_VANE to MEROTUNKI_SMOKE_TUBE: where the surveyor picks the instrument
+ * make one of these; no settings are to be seen. With a number from 1 to 4 each is on every input the same as its split
+ * above with that profile's settings: answer, refusals and all that is written. With any other number it refuses by 10
+ * where that one would look at its settings, before the readings, and writes nothing but its answer.
+ *   merotunki_profile_svd          refuses with 1, 2, 3, 10, 8
+ *   merotunki_profile_full_svd     refuses with 1 to 5, 10, 8
+ *   merotunki_profile_ordered_svd  refuses with 1 to 5, 11, 10, 8 before the run, with 12 and 13 after it */
+merotunki_answer *merotunki_profile_svd(merotunki_answer *answer, double *matrix, size_t matrix_length, size_t rows,
+                                        size_t columns, size_t profile);
+merotunki_answer *merotunki_profile_full_svd(merotunki_answer *answer, double *matrix, size_t matrix_length, double *u,
+                                             size_t u_length, double *v, size_t v_length, size_t rows, size_t columns,
+                                             size_t profile);
+merotunki_answer *merotunki_profile_ordered_svd(merotunki_answer *answer, double *matrix, size_t matrix_length,
+                                                double *u, size_t u_length, double *v, size_t v_length,
+                                                double *values, size_t values_length, size_t rows, size_t columns,
+                                                size_t profile);
+
+/* Writes the settings of a profile, with number 0; with a number other than 1 to 4, number 10 and zeros. */
+merotunki_profile_answer *merotunki_profile(merotunki_profile_answer *answer, size_t profile);
 
 /* Fills a with the identity of n rows and n columns. Answers 0, or refuses with 1, 2 or 4. */
 uint64_t merotunki_identity(double *a, size_t a_length, size_t n);

@@ -3,7 +3,8 @@
  * A thread runs on a stack that this program lends it. Before a call the free part is painted; after it the deepest
  * byte that lost its paint is found. The same is done with a function of the same arguments that does nothing, and the
  * difference is the call's own use, that of all it calls included. The most over all cases is printed: tables that
- * settle, stop, are quiet and are refused, 48 x 48 and others. What a call reserves and never writes is not seen. */
+ * settle, stop, are quiet and are refused, 48 x 48 and others, with three limits and, by profile number, all four
+ * profiles and two numbers that are none. What a call reserves and never writes is not seen. */
 #include "merotunki.h"
 
 #include <math.h>
@@ -27,12 +28,23 @@
 #define ORDERED_LIST \
     merotunki_answer *answer, double *m, size_t ml, double *u, size_t ul, double *v, size_t vl, double *w, size_t wl, \
         size_t r, size_t c, size_t limit, size_t credit, double t, double a, double f
+#define BY_SVD_LIST merotunki_answer *answer, double *m, size_t ml, size_t r, size_t c, size_t profile
+#define BY_FULL_LIST \
+    merotunki_answer *answer, double *m, size_t ml, double *u, size_t ul, double *v, size_t vl, size_t r, size_t c, \
+        size_t profile
+#define BY_ORDERED_LIST \
+    merotunki_answer *answer, double *m, size_t ml, double *u, size_t ul, double *v, size_t vl, double *w, size_t wl, \
+        size_t r, size_t c, size_t profile
 #define ROW_LIST const double *u, size_t ul, const double *v, size_t vl, size_t r, size_t c, size_t side, size_t row
 
 typedef struct calls {
     merotunki_answer *(*svd)(SVD_LIST);
     merotunki_answer *(*full)(FULL_LIST);
     merotunki_answer *(*ordered)(ORDERED_LIST);
+    merotunki_answer *(*svd_by)(BY_SVD_LIST);
+    merotunki_answer *(*full_by)(BY_FULL_LIST);
+    merotunki_answer *(*ordered_by)(BY_ORDERED_LIST);
+    merotunki_profile_answer *(*profile)(merotunki_profile_answer *told, size_t profile);
     uint64_t (*identity)(double *a, size_t al, size_t n);
     merotunki_part (*row)(ROW_LIST);
     double (*root)(double x);
@@ -44,6 +56,10 @@ typedef struct calls {
 static merotunki_answer *no_svd(SVD_LIST) { return answer; }
 static merotunki_answer *no_full(FULL_LIST) { return answer; }
 static merotunki_answer *no_ordered(ORDERED_LIST) { return answer; }
+static merotunki_answer *no_svd_by(BY_SVD_LIST) { return answer; }
+static merotunki_answer *no_full_by(BY_FULL_LIST) { return answer; }
+static merotunki_answer *no_ordered_by(BY_ORDERED_LIST) { return answer; }
+static merotunki_profile_answer *no_profile(merotunki_profile_answer *told, size_t profile) { return told; }
 static uint64_t no_identity(double *a, size_t al, size_t n) { return 0; }
 static merotunki_part no_row(ROW_LIST) { return (merotunki_part){0, 0}; }
 static double no_root(double x) { return x; }
@@ -51,16 +67,21 @@ static merotunki_choice *no_defaults(merotunki_choice *choice) { return choice; 
 static uint64_t no_layout(void) { return 0; }
 #pragma GCC diagnostic warning "-Wunused-parameter"
 
-static const calls real = {merotunki_svd, merotunki_full_svd,    merotunki_ordered_svd, merotunki_identity,
-                           merotunki_row, merotunki_square_root, merotunki_defaults,    merotunki_layout};
-static const calls none = {no_svd, no_full, no_ordered, no_identity, no_row, no_root, no_defaults, no_layout};
+static const calls real = {
+    merotunki_svd,         merotunki_full_svd,         merotunki_ordered_svd,
+    merotunki_profile_svd, merotunki_profile_full_svd, merotunki_profile_ordered_svd,
+    merotunki_profile,     merotunki_identity,         merotunki_row,
+    merotunki_square_root, merotunki_defaults,         merotunki_layout};
+static const calls none = {no_svd,     no_full,     no_ordered, no_svd_by, no_full_by,  no_ordered_by,
+                           no_profile, no_identity, no_row,     no_root,   no_defaults, no_layout};
 static const calls *volatile chosen; /* not known to the compiler, so that none of them is left out */
 
 /* What the next call is made on. */
-static size_t rows, columns, limit, number;
+static size_t rows, columns, limit, number, picked;
 static double matrix[ENTRIES], u[ENTRIES], v[ENTRIES], values[MOST], value;
 static merotunki_answer answer;
 static merotunki_choice choice;
+static merotunki_profile_answer told;
 static merotunki_part part;
 
 static void svd(void) {
@@ -73,6 +94,19 @@ static void full(void) {
 static void ordered(void) {
     chosen->ordered(&answer, matrix, rows * columns, u, rows * rows, v, columns * columns, values,
                     rows < columns ? rows : columns, rows, columns, limit, 50, 1e-10, 1e-12, 1e-21);
+}
+static void svd_by(void) { chosen->svd_by(&answer, matrix, rows * columns, rows, columns, picked); }
+static void full_by(void) {
+    chosen->full_by(&answer, matrix, rows * columns, u, rows * rows, v, columns * columns, rows, columns, picked);
+}
+static void ordered_by(void) {
+    chosen->ordered_by(&answer, matrix, rows * columns, u, rows * rows, v, columns * columns, values,
+                       rows < columns ? rows : columns, rows, columns, picked);
+}
+static void profile(void) {
+    told.number = 0;
+    chosen->profile(&told, picked);
+    number = told.number;
 }
 static void identity(void) { number = chosen->identity(u, rows * rows, rows); }
 static void row(void) { part = chosen->row(u, rows * rows, v, columns * columns, rows, columns, limit % 3, rows - 1); }
@@ -119,12 +153,15 @@ static void fill(int kind) {
 
 static void most(const char *name, void (*call)(void), int reports) {
     static const size_t shapes[][2] = {{48, 48}, {48, 47}, {47, 48}, {48, 1}, {1, 48}, {1, 1}, {2, 2}, {0, 3}};
-    static const size_t limits[] = {100, 1, 100001};
+    static const struct {
+        size_t limit, profile;
+    } ways[] = {{100, MEROTUNKI_VANE},       {1, MEROTUNKI_HOT_WIRE}, {100001, 0},
+                {100, MEROTUNKI_ULTRASONIC}, {1, MEROTUNKI_SMOKE_TUBE}, {100001, SIZE_MAX}};
     size_t accepted = 0, refused = 0;
     for (size_t s = 0; s < sizeof shapes / sizeof *shapes; s++)
-        for (size_t l = 0; l < 3; l++)
+        for (size_t w = 0; w < sizeof ways / sizeof *ways; w++)
             for (int kind = 0; kind < 5; kind++) {
-                rows = shapes[s][0], columns = shapes[s][1], limit = limits[l];
+                rows = shapes[s][0], columns = shapes[s][1], limit = ways[w].limit, picked = ways[w].profile;
                 fill(kind);
                 size_t empty = depth(call, &none);
                 fill(kind);
@@ -133,7 +170,7 @@ static void most(const char *name, void (*call)(void), int reports) {
                 size_t *kept = answer.number != 0 || number != 0 ? &refused : &accepted;
                 if (used > *kept) *kept = used;
             }
-    printf("%-22s %6zu", name, accepted);
+    printf("%-30s %6zu", name, accepted);
     if (reports) printf("   refused %6zu", refused);
     printf("\n");
 }
@@ -142,6 +179,10 @@ static void *measure(void *given) {
     most("merotunki_svd", svd, 1);
     most("merotunki_full_svd", full, 1);
     most("merotunki_ordered_svd", ordered, 1);
+    most("merotunki_profile_svd", svd_by, 1);
+    most("merotunki_profile_full_svd", full_by, 1);
+    most("merotunki_profile_ordered_svd", ordered_by, 1);
+    most("merotunki_profile", profile, 1);
     most("merotunki_identity", identity, 1);
     most("merotunki_row", row, 0);
     most("merotunki_square_root", root, 0);

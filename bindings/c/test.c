@@ -48,7 +48,7 @@ static void draw(double *a, size_t length) {
 
 /* A call and all that it is lent. */
 typedef struct job {
-    size_t rows, columns, matrix_length, u_length, v_length, values_length, limit, credit;
+    size_t rows, columns, matrix_length, u_length, v_length, values_length, limit, credit, profile;
     double tolerance, absolute, floor;
     double matrix[LONG], u[LONG], v[LONG], values[MOST + 2];
     merotunki_answer answer;
@@ -60,7 +60,7 @@ static void prepare(job *j, size_t rows, size_t columns) {
     j->rows = rows, j->columns = columns;
     j->matrix_length = rows * columns, j->u_length = rows * rows, j->v_length = columns * columns;
     j->values_length = rows < columns ? rows : columns;
-    j->limit = choice.limit, j->credit = choice.credit;
+    j->limit = choice.limit, j->credit = choice.credit, j->profile = MEROTUNKI_VANE;
     j->tolerance = choice.tolerance, j->absolute = choice.absolute, j->floor = choice.floor;
     draw(j->matrix, LONG);
     draw(j->values, MOST + 2);
@@ -85,6 +85,21 @@ static merotunki_answer *ordered(job *j) {
     return merotunki_ordered_svd(&j->answer, j->matrix, j->matrix_length, j->u, j->u_length, j->v, j->v_length,
                                  j->values, j->values_length, j->rows, j->columns, j->limit, j->credit, j->tolerance,
                                  j->absolute, j->floor);
+}
+
+/* The same by profile number: the settings of the job are not handed in. */
+static merotunki_answer *plain_by(job *j) {
+    return merotunki_profile_svd(&j->answer, j->matrix, j->matrix_length, j->rows, j->columns, j->profile);
+}
+
+static merotunki_answer *full_by(job *j) {
+    return merotunki_profile_full_svd(&j->answer, j->matrix, j->matrix_length, j->u, j->u_length, j->v, j->v_length,
+                                      j->rows, j->columns, j->profile);
+}
+
+static merotunki_answer *ordered_by(job *j) {
+    return merotunki_profile_ordered_svd(&j->answer, j->matrix, j->matrix_length, j->u, j->u_length, j->v,
+                                         j->v_length, j->values, j->values_length, j->rows, j->columns, j->profile);
 }
 
 static int answered(const job *j, uint64_t word, uint64_t passes, uint64_t sweeps, uint64_t drops, uint64_t range,
@@ -138,20 +153,31 @@ static void unfit(unsigned n) {
     case 6: now.limit = MEROTUNKI_MOST_LIMIT + 1; break;
     case 7: now.floor = 0.0; break;
     case 8: now.matrix[5] = -INFINITY, now.matrix[7] = NAN; break;
+    case 10: now.profile = MEROTUNKI_SMOKE_TUBE + 1; break;
     case 11: now.values_length -= 1; break;
     }
 }
 
-/* A 4 x 3 job, changed so, is refused so by each call that has the number. */
+/* Which calls have which numbers: by settings 6 and 7, by profile number 10 in their place; the list's is the ordered
+ * calls' alone, and the plain ones have no U and V. */
+static int by_settings(unsigned number) { return number != 10; }
+static int by_profile(unsigned number) { return number != 6 && number != 7; }
 static int in_full(unsigned number) { return number != 11; }
 static int in_plain(unsigned number) { return number != 11 && number != 4 && number != 5; }
-#define REFUSED_AT(number, row, column, bad, change)                           \
-    do {                                                                       \
-        prepare(&now, 4, 3);                                                   \
-        change;                                                                \
-        CHECK(refused(ordered, number, row, column, bad));                     \
-        if (in_full(number)) CHECK(refused(full, number, row, column, bad));   \
-        if (in_plain(number)) CHECK(refused(plain, number, row, column, bad)); \
+
+/* A 4 x 3 job, changed so, is refused so by each call that has the number. */
+#define REFUSED_IN(has, number, row, column, bad, ordered, full, plain)                                  \
+    do {                                                                                                 \
+        if (has(number)) CHECK(refused(ordered, number, row, column, bad));                              \
+        if (has(number) && in_full(number)) CHECK(refused(full, number, row, column, bad));              \
+        if (has(number) && in_plain(number)) CHECK(refused(plain, number, row, column, bad));            \
+    } while (0)
+#define REFUSED_AT(number, row, column, bad, change)                                                     \
+    do {                                                                                                 \
+        prepare(&now, 4, 3);                                                                             \
+        change;                                                                                          \
+        REFUSED_IN(by_settings, number, row, column, bad, ordered, full, plain);                         \
+        REFUSED_IN(by_profile, number, row, column, bad, ordered_by, full_by, plain_by);                 \
     } while (0)
 #define REFUSED(number, change) REFUSED_AT(number, 0, 0, 0, change)
 #define BAD(row, column, bad, change) REFUSED_AT(8, row, column, bad, change)
@@ -193,8 +219,14 @@ static void refusals(void) {
     REFUSED(7, now.floor = -1.0);
     REFUSED(7, now.floor = INFINITY);
     REFUSED(7, now.floor = NAN);
+    REFUSED(10, now.profile = 0);
+    REFUSED(10, now.profile = 5);
+    REFUSED(10, now.profile = SIZE_MAX);
+    REFUSED(10, now.profile = ((size_t)1 << 32) + MEROTUNKI_HOT_WIRE); /* all of its 64 bits count */
+    REFUSED(10, now.profile = ((size_t)1 << 63) + MEROTUNKI_VANE);
+    REFUSED(10, now.profile = 256 + MEROTUNKI_SMOKE_TUBE);
     /* the order: whatever else is unfit, the first number is given; bad readings are told with 8 alone */
-    static const unsigned order[] = {1, 2, 3, 4, 5, 11, 6, 7, 8};
+    static const unsigned order[] = {1, 2, 3, 4, 5, 11, 6, 7, 10, 8};
     for (size_t first = 0; first < sizeof order / sizeof *order; first++) {
         for (size_t other = first + 1; other < sizeof order / sizeof *order; other++) {
             REFUSED(order[first], unfit(order[first]); unfit(order[other]));
@@ -205,8 +237,12 @@ static void refusals(void) {
     CHECK(merotunki_svd(&answer, NULL, 0, 4, 3, 100, 50, 0, 0, 1)->number == 3);
     CHECK(merotunki_full_svd(&answer, NULL, 0, NULL, 0, NULL, 0, 4, 3, 100, 50, 0, 0, 1)->number == 3);
     CHECK(merotunki_ordered_svd(&answer, NULL, 0, NULL, 0, NULL, 0, NULL, 0, 4, 3, 100, 50, 0, 0, 1)->number == 3);
+    CHECK(merotunki_profile_svd(&answer, NULL, 0, 4, 3, 1)->number == 3);
+    CHECK(merotunki_profile_full_svd(&answer, NULL, 0, NULL, 0, NULL, 0, 4, 3, 1)->number == 3);
+    CHECK(merotunki_profile_ordered_svd(&answer, NULL, 0, NULL, 0, NULL, 0, NULL, 0, 4, 3, 1)->number == 3);
     double one[3] = {1, 1, 1};
     CHECK(merotunki_ordered_svd(&answer, one, 1, one + 1, 1, one + 2, 1, NULL, 0, 1, 1, 0, 0, 0, 0, 1)->number == 11);
+    CHECK(merotunki_profile_ordered_svd(&answer, one, 1, one + 1, 1, one + 2, 1, NULL, 0, 1, 1, 1)->number == 11);
     CHECK(merotunki_identity(NULL, 0, 2) == 4);
     /* and what is not refused */
     static const size_t sizes[][2] = {{1, 1}, {48, 48}, {48, 1}, {1, 48}};
@@ -606,6 +642,135 @@ static void rotations(void) {
     }
 }
 
+/* The settings of each instrument, from profile 1 on. */
+static const merotunki_profile_answer instruments[] = {
+    {0, 100, 50, 1e-10, 1e-12, 1e-21},
+    {0, 200, 50, 1e-12, 1e-13, 1e-21},
+    {0, 400, 100, 1e-13, 1e-14, 1e-21},
+    {0, 50, 25, 1e-6, 1e-8, 1e-21},
+};
+#define INSTRUMENTS (sizeof instruments / sizeof *instruments)
+
+/* The job with that profile, and with its settings. */
+static void take(job *j, size_t profile) {
+    const merotunki_profile_answer *s = &instruments[profile - 1];
+    j->profile = profile, j->limit = s->limit, j->credit = s->credit;
+    j->tolerance = s->tolerance, j->absolute = s->absolute, j->floor = s->floor;
+}
+
+/* Whether two calls came to the same: the same answer, and all that they were lent alike. */
+static int same_outcome(const job *a, const job *b) {
+    return memcmp(&a->answer, &b->answer, sizeof a->answer) == 0 && all_alike(a->matrix, b->matrix, LONG) &&
+           all_alike(a->u, b->u, LONG) && all_alike(a->v, b->v, LONG) && all_alike(a->values, b->values, MOST + 2);
+}
+
+/* Whether passes and rotations are within the bounds of the profile. */
+static int within_bounds(const job *j) {
+    const uint64_t c = j->rows < j->columns ? j->rows : j->columns, passes = j->answer.passes;
+    const merotunki_profile_answer *s = &instruments[j->profile - 1];
+    return passes <= (c > 1 ? s->limit + s->credit * (c - 2) : 0) && j->answer.rotations <= 2 * (c - 1) * passes;
+}
+
+/* Whether each call by the profile does with this job what the call with its settings does. Counts the numbers of all
+ * three and, where there was a run, its word. */
+static size_t numbers_met[14], words_met[4];
+static int as_with_settings(const job *start, size_t profile) {
+    static merotunki_answer *(*const calls[][2])(job *) = {{plain, plain_by}, {full, full_by}, {ordered, ordered_by}};
+    static job with, by;
+    for (size_t i = 0; i < 3; i++) {
+        with = *start;
+        take(&with, profile);
+        by = with;
+        calls[i][0](&with);
+        if (calls[i][1](&by) != &by.answer || !same_outcome(&with, &by)) return 0;
+        if (by.answer.word != MEROTUNKI_NONE && !within_bounds(&by)) return 0;
+        numbers_met[by.answer.number % 14]++, words_met[by.answer.word & 3]++;
+    }
+    return 1;
+}
+
+static void profiles(void) {
+    static job a;
+    merotunki_profile_answer told, none = {.number = 10};
+    merotunki_choice choice;
+    CHECK(MEROTUNKI_VANE == 1 && MEROTUNKI_HOT_WIRE == 2 && MEROTUNKI_ULTRASONIC == 3 && MEROTUNKI_SMOKE_TUBE == 4);
+    for (size_t n = 1; n <= INSTRUMENTS; n++) { /* to the bit */
+        memset(&told, 0xAA, sizeof told);
+        CHECK(merotunki_profile(&told, n) == &told && memcmp(&told, &instruments[n - 1], sizeof told) == 0);
+    }
+    static const size_t others[] = {0, 5, 6, 256 + 1, ((size_t)1 << 32) + 2, (size_t)1 << 63, SIZE_MAX};
+    for (size_t i = 0; i < sizeof others / sizeof *others; i++) {
+        memset(&told, 0xAA, sizeof told);
+        CHECK(merotunki_profile(&told, others[i]) == &told && memcmp(&told, &none, sizeof told) == 0);
+    }
+    merotunki_defaults(&choice); /* the vane's settings are the defaults */
+    merotunki_profile(&told, MEROTUNKI_VANE);
+    CHECK(memcmp(&told.limit, &choice, sizeof choice) == 0);
+
+    /* by hand. Zeros: every pass is a sweep over all values, as many as the limit says */
+    for (size_t n = 1; n <= INSTRUMENTS; n++) {
+        const uint64_t limit = instruments[n - 1].limit;
+        prepare(&a, MOST, MOST);
+        memset(a.matrix, 0, sizeof a.matrix);
+        a.profile = n;
+        CHECK(plain_by(&a) && answered(&a, MEROTUNKI_QUIET, limit, limit, 0, MOST, 2 * (MOST - 1) * limit));
+    }
+    /* (d, x), (0, d): the first pass is a drop where x is below both 2 x d x tolerance and absolute, else a sweep */
+    static const struct first {
+        double d, x;
+        int drops[INSTRUMENTS];
+    } firsts[] = {
+        {1, 5e-15, {1, 1, 1, 1}},    {1, 2e-14, {1, 1, 0, 1}},    {1, 5e-14, {1, 1, 0, 1}},
+        {1, 2e-13, {1, 0, 0, 1}},    {1, 5e-13, {1, 0, 0, 1}},    {1, 2e-12, {0, 0, 0, 1}},
+        {1, 5e-9, {0, 0, 0, 1}},     {1, 2e-8, {0, 0, 0, 0}},     {1e-3, 1e-16, {1, 1, 1, 1}},
+        {1e-3, 4e-16, {1, 1, 0, 1}}, {1e-3, 4e-15, {1, 0, 0, 1}}, {1e-3, 1e-13, {1, 0, 0, 1}},
+        {1e-3, 4e-13, {0, 0, 0, 1}}, {1e-3, 1e-9, {0, 0, 0, 1}},  {1e-3, 4e-9, {0, 0, 0, 0}},
+    };
+    for (size_t i = 0; i < sizeof firsts / sizeof *firsts; i++)
+        for (size_t n = 1; n <= INSTRUMENTS; n++) {
+            prepare(&a, 2, 2);
+            set(&a, (double[]){firsts[i].d, firsts[i].x, 0, firsts[i].d});
+            CHECK(as_with_settings(&a, n));
+            a.profile = n;
+            CHECK(full_by(&a)->number == 0 && (a.answer.sweeps == 0) == firsts[i].drops[n - 1]);
+        }
+
+    /* on many tables: by profile number and with its settings alike */
+    for (size_t n = 1; n <= INSTRUMENTS; n++) {
+        memset(numbers_met, 0, sizeof numbers_met), memset(words_met, 0, sizeof words_met);
+        for (size_t i = 0; i < 1200; i++) {
+            const size_t r = 1 + i / 3 % 9, c = 1 + i / 27 % 9;
+            seed = i;
+            sparse(&a, r, c);
+            if (i % 3 == 0) prepare(&a, r, c);
+            for (size_t k = 0; i % 3 == 1 && k < r * c; k++) /* one row alone, or all rows alike */
+                a.matrix[k] = k >= c && i % 2 == 0 ? 0 : a.matrix[k % c];
+            CHECK(as_with_settings(&a, n));
+        }
+        static const size_t shapes[][2] = {{48, 48}, {48, 3}, {3, 48}, {30, 29}, {16, 17}, {1, 48}, {48, 1}, {1, 1}};
+        for (size_t i = 0; i < sizeof shapes / sizeof *shapes; i++) {
+            prepare(&a, shapes[i][0], shapes[i][1]);
+            CHECK(as_with_settings(&a, n));
+            for (size_t k = 0; k < LONG; k++) a.matrix[k] = a.matrix[k % 7]; /* next to no rank */
+            draw(a.u, a.u_length); /* not from the identity */
+            draw(a.v, a.v_length);
+            CHECK(as_with_settings(&a, n));
+            for (size_t k = 0; k < LONG; k++) a.matrix[k] = DBL_MAX; /* infinities and NaN */
+            CHECK(as_with_settings(&a, n));
+        }
+        static const unsigned order[] = {1, 2, 3, 4, 5, 11, 8};
+        for (size_t i = 0; i < sizeof order / sizeof *order; i++) {
+            prepare(&now, 4, 3);
+            unfit(order[i]);
+            CHECK(as_with_settings(&now, n));
+        }
+        static const unsigned met[] = {0, 1, 2, 3, 4, 5, 8, 11, 12, 13};
+        for (size_t i = 0; i < sizeof met / sizeof *met; i++) CHECK(numbers_met[met[i]] > 0);
+        CHECK(numbers_met[6] == 0 && numbers_met[7] == 0 && numbers_met[10] == 0 && numbers_met[12] > 100);
+        for (size_t word = MEROTUNKI_SETTLED; word <= MEROTUNKI_QUIET; word++) CHECK(words_met[word] > 100);
+    }
+}
+
 /* The distances between the table as it was and U x matrix x (V transposed), added up. */
 static double distance(const job *j, const double *was) {
     static double half[ENTRIES];
@@ -780,6 +945,7 @@ int main(void) {
     in_order();
     quiet();
     rotations();
+    profiles();
     drawn_tables();
     identities();
     rows();

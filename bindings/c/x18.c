@@ -41,10 +41,12 @@ int main(void) {
     static const size_t shapes[][2] = {{48, 48}, {48, 3}, {3, 48}, {17, 16}, {2, 2}, {1, 1}, {1, 5}, {5, 1}, {49, 2}};
     merotunki_answer a;
     merotunki_choice c;
+    merotunki_profile_answer told;
     volatile double root;
     volatile uint64_t number;
     KEPT(merotunki_defaults(&c));
     KEPT(number = merotunki_layout());
+    for (size_t profile = 0; profile <= 5; profile++) KEPT(merotunki_profile(&told, profile));
     KEPT(root = merotunki_square_root(2.0));
     KEPT(root = merotunki_square_root(5e-324));
     for (size_t s = 0; s < sizeof shapes / sizeof *shapes; s++) {
@@ -59,6 +61,15 @@ int main(void) {
                                    1e-12, 1e-21));
         drawn(r * n);
         KEPT(merotunki_svd(&a, matrix, r * n, r, n, 100, 50, 1e-10, 1e-12, 1e-21));
+        for (size_t profile = 0; profile <= 5; profile++) { /* 0 and 5 are none */
+            drawn(r * n);
+            KEPT(merotunki_profile_full_svd(&a, matrix, r * n, u, r * r, v, n * n, r, n, profile));
+            drawn(r * n);
+            KEPT(merotunki_profile_ordered_svd(&a, matrix, r * n, u, r * r, v, n * n, values, r < n ? r : n, r, n,
+                                               profile));
+            drawn(r * n);
+            KEPT(merotunki_profile_svd(&a, matrix, r * n, r, n, profile));
+        }
     }
     (void)root, (void)number;
     if (failed) printf("%u checks FAILED\n", failed);

@@ -1,4 +1,5 @@
-/* profile.c: splits the survey of samples/leaking-stopping.csv and prints what an app would show of it.
+/* profile.c: splits the survey of samples/leaking-stopping.csv and prints what an app would show of it. The profile
+ * shown is the roadway's; the calls by profile number are named for the settings of an instrument.
  * No sign has to be chosen: (-u, -v) for (u, v), or (-u, -s) for (u, s), gives the same profile and the same drift. */
 #include "merotunki.h"
 #include <math.h>
@@ -50,15 +51,12 @@ static double miss(int k) {
 }
 
 int main(void) {
-    merotunki_choice c;
     merotunki_answer a;
     if (!merotunki_fits()) return puts("linked with another library than merotunki.h is for"), 1;
     for (int at = 0; at < M * N; at++) table[at] = readings[at];
     merotunki_identity(u, M * M, M);
     merotunki_identity(v, N * N, N);
-    merotunki_defaults(&c);
-    merotunki_ordered_svd(&a, table, M * N, u, M * M, v, N * N, values, VALUES, M, N, c.limit, c.credit, c.tolerance,
-                          c.absolute, c.floor);
+    merotunki_profile_ordered_svd(&a, table, M * N, u, M * M, v, N * N, values, VALUES, M, N, MEROTUNKI_VANE);
     int settled = a.number == 0, k = 0; /* in order the strongest is the first */
     if (!settled && a.number != 12) return printf("refused by %d\n", (int)a.number), 1; /* split.c has the text of 8 */
     printf("%s, passes %d\n", settled ? "settled" : a.word == MEROTUNKI_QUIET ? "quiet" : "stopped", (int)a.passes);

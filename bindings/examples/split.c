@@ -1,16 +1,14 @@
-/* split.c: splits a table of 4 stations and 3 passes and prints what an app would show. */
+/* split.c: splits a table of 4 stations and 3 passes, read with a vane, and prints what an app would show. */
 #include "merotunki.h"
 #include <stdio.h>
 
 int main(void) {
     double table[12] = {1.2, 1.4, 1.1, 2.4, 2.5, 2.9, 1.9, 2.6, 1.8, 0.7, 0.9, 1.3}, u[16], v[9];
-    merotunki_choice c;
     merotunki_answer a;
     if (!merotunki_fits()) return puts("linked with another library than merotunki.h is for"), 1;
-    merotunki_defaults(&c);
     merotunki_identity(u, 16, 4);
     merotunki_identity(v, 9, 3);
-    merotunki_full_svd(&a, table, 12, u, 16, v, 9, 4, 3, c.limit, c.credit, c.tolerance, c.absolute, c.floor);
+    merotunki_profile_full_svd(&a, table, 12, u, 16, v, 9, 4, 3, MEROTUNKI_VANE); /* the surveyor's instrument */
     if (a.number == 8) { /* a reading is infinite or NaN */
         printf("Station %d, pass %d: no usable reading", (int)a.row, (int)a.column);
         if (a.bad > 1) printf(", and %d more", (int)a.bad - 1);

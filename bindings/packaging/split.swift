@@ -1,4 +1,4 @@
-// split.swift: splits a table of 4 stations and 3 passes and prints what an app would show.
+// split.swift: splits a table of 4 stations and 3 passes, read with a vane, and prints what an app would show.
 import Foundation
 import Merotunki
 
@@ -6,12 +6,10 @@ precondition(merotunki_fits() == 1, "the library linked is not the header's")
 var table = [1.2, 1.4, 1.1, 2.4, 2.5, 2.9, 1.9, 2.6, 1.8, 0.7, 0.9, 1.3]
 var u = [Double](repeating: 0, count: 16)
 var v = [Double](repeating: 0, count: 9)
-var c = merotunki_choice()
 var a = merotunki_answer()
-merotunki_defaults(&c)
 merotunki_identity(&u, 16, 4)
 merotunki_identity(&v, 9, 3)
-merotunki_full_svd(&a, &table, 12, &u, 16, &v, 9, 4, 3, Int(c.limit), Int(c.credit), c.tolerance, c.absolute, c.floor)
+merotunki_profile_full_svd(&a, &table, 12, &u, 16, &v, 9, 4, 3, Int(MEROTUNKI_VANE)) // the surveyor's instrument
 if a.number == 8 { // a reading is infinite or NaN
     print("Station \(a.row), pass \(a.column): no usable reading" + (a.bad > 1 ? ", and \(a.bad - 1) more." : "."))
     exit(1)

@@ -4,8 +4,8 @@
  * collection moves, and no collection waits for a split. The lengths that the library is told are the arrays' own, so
  * every check is the library's. Native.java hands in no null.
  *
- * Sizes, limit and credit come as Java's int. As size_t a negative one is a number near 2 to the 64th, which the
- * library refuses: sizes by 2, limit and credit by 6.
+ * Sizes, limit, credit and profile come as Java's int. As size_t a negative one is a number near 2 to the 64th, which
+ * the library refuses: sizes by 2, limit and credit by 6, profile by 10.
  */
 #include "merotunki.h"
 
@@ -57,18 +57,36 @@ JNIEXPORT void JNICALL Java_merotunki_Native_checkLayout(JNIEnv *env, jclass sel
     throw_new(env, "java/lang/UnsatisfiedLinkError", text);
 }
 
-JNIEXPORT void JNICALL Java_merotunki_Native_svd(JNIEnv *env, jclass self, jlongArray answer, jdoubleArray table,
-                                                 jint stations, jint passes, jint limit, jint credit,
-                                                 jdouble tolerance, jdouble absolute, jdouble floor) {
+/* How a split is told its settings: by the number of a profile where `by_profile` is not 0, else by themselves. */
+typedef struct settings {
+    int by_profile;
+    size_t profile, limit, credit;
+    double tolerance, absolute, floor;
+} settings;
+
+static settings of_settings(jint limit, jint credit, jdouble tolerance, jdouble absolute, jdouble floor) {
+    const settings s = {0, 0, (size_t)limit, (size_t)credit, tolerance, absolute, floor};
+    return s;
+}
+
+static settings of_profile(jint profile) {
+    const settings s = {1, (size_t)profile, 0, 0, 0, 0, 0};
+    return s;
+}
+
+/* The split alone. */
+static void split(JNIEnv *env, jlongArray answer, jdoubleArray table, jint stations, jint passes, settings s) {
     const jsize length = (*env)->GetArrayLength(env, table);
     double *const t = room(env, (size_t)length);
     merotunki_answer a;
-    (void)self;
     if (t == NULL) return;
     (*env)->GetDoubleArrayRegion(env, table, 0, length, t);
     if (!(*env)->ExceptionCheck(env)) {
-        merotunki_svd(&a, t, (size_t)length, (size_t)stations, (size_t)passes, (size_t)limit, (size_t)credit,
-                      tolerance, absolute, floor);
+        if (s.by_profile)
+            merotunki_profile_svd(&a, t, (size_t)length, (size_t)stations, (size_t)passes, s.profile);
+        else
+            merotunki_svd(&a, t, (size_t)length, (size_t)stations, (size_t)passes, s.limit, s.credit, s.tolerance,
+                          s.absolute, s.floor);
         if (a.number == 0) hand_back(env, table, t);
         tell(env, answer, &a);
     }
@@ -77,8 +95,7 @@ JNIEXPORT void JNICALL Java_merotunki_Native_svd(JNIEnv *env, jclass self, jlong
 
 /* The split with U and V, which begin as the identity; where `values` is not NULL, the split in order. */
 static void split_kept(JNIEnv *env, jlongArray answer, jdoubleArray table, jdoubleArray u, jdoubleArray v,
-                       jdoubleArray values, jint stations, jint passes, jint limit, jint credit, jdouble tolerance,
-                       jdouble absolute, jdouble floor) {
+                       jdoubleArray values, jint stations, jint passes, settings s) {
     const jsize length = (*env)->GetArrayLength(env, table);
     const size_t u_length = (size_t)(*env)->GetArrayLength(env, u), v_length = (size_t)(*env)->GetArrayLength(env, v);
     const size_t values_length = values == NULL ? 0 : (size_t)(*env)->GetArrayLength(env, values);
@@ -91,13 +108,19 @@ static void split_kept(JNIEnv *env, jlongArray answer, jdoubleArray table, jdoub
         /* what the identity refuses, the split refuses too */
         merotunki_identity(tu, u_length, (size_t)stations);
         merotunki_identity(tv, v_length, (size_t)passes);
-        if (values == NULL)
+        if (values == NULL && s.by_profile)
+            merotunki_profile_full_svd(&a, t, (size_t)length, tu, u_length, tv, v_length, (size_t)stations,
+                                       (size_t)passes, s.profile);
+        else if (values == NULL)
             merotunki_full_svd(&a, t, (size_t)length, tu, u_length, tv, v_length, (size_t)stations, (size_t)passes,
-                               (size_t)limit, (size_t)credit, tolerance, absolute, floor);
+                               s.limit, s.credit, s.tolerance, s.absolute, s.floor);
+        else if (s.by_profile)
+            merotunki_profile_ordered_svd(&a, t, (size_t)length, tu, u_length, tv, v_length, listed, values_length,
+                                          (size_t)stations, (size_t)passes, s.profile);
         else
             merotunki_ordered_svd(&a, t, (size_t)length, tu, u_length, tv, v_length, listed, values_length,
-                                  (size_t)stations, (size_t)passes, (size_t)limit, (size_t)credit, tolerance, absolute,
-                                  floor);
+                                  (size_t)stations, (size_t)passes, s.limit, s.credit, s.tolerance, s.absolute,
+                                  s.floor);
         if (a.word != MEROTUNKI_NONE) { /* there was a run */
             hand_back(env, table, t);
             hand_back(env, u, tu);
@@ -109,12 +132,33 @@ static void split_kept(JNIEnv *env, jlongArray answer, jdoubleArray table, jdoub
     free(t);
 }
 
+JNIEXPORT void JNICALL Java_merotunki_Native_svd(JNIEnv *env, jclass self, jlongArray answer, jdoubleArray table,
+                                                 jint stations, jint passes, jint limit, jint credit,
+                                                 jdouble tolerance, jdouble absolute, jdouble floor) {
+    (void)self;
+    split(env, answer, table, stations, passes, of_settings(limit, credit, tolerance, absolute, floor));
+}
+
+JNIEXPORT void JNICALL Java_merotunki_Native_profileSvd(JNIEnv *env, jclass self, jlongArray answer,
+                                                        jdoubleArray table, jint stations, jint passes, jint profile) {
+    (void)self;
+    split(env, answer, table, stations, passes, of_profile(profile));
+}
+
 JNIEXPORT void JNICALL Java_merotunki_Native_fullSvd(JNIEnv *env, jclass self, jlongArray answer, jdoubleArray table,
                                                      jdoubleArray u, jdoubleArray v, jint stations, jint passes,
                                                      jint limit, jint credit, jdouble tolerance, jdouble absolute,
                                                      jdouble floor) {
     (void)self;
-    split_kept(env, answer, table, u, v, NULL, stations, passes, limit, credit, tolerance, absolute, floor);
+    split_kept(env, answer, table, u, v, NULL, stations, passes,
+               of_settings(limit, credit, tolerance, absolute, floor));
+}
+
+JNIEXPORT void JNICALL Java_merotunki_Native_profileFullSvd(JNIEnv *env, jclass self, jlongArray answer,
+                                                            jdoubleArray table, jdoubleArray u, jdoubleArray v,
+                                                            jint stations, jint passes, jint profile) {
+    (void)self;
+    split_kept(env, answer, table, u, v, NULL, stations, passes, of_profile(profile));
 }
 
 JNIEXPORT void JNICALL Java_merotunki_Native_orderedSvd(JNIEnv *env, jclass self, jlongArray answer,
@@ -123,7 +167,16 @@ JNIEXPORT void JNICALL Java_merotunki_Native_orderedSvd(JNIEnv *env, jclass self
                                                         jint credit, jdouble tolerance, jdouble absolute,
                                                         jdouble floor) {
     (void)self;
-    split_kept(env, answer, table, u, v, values, stations, passes, limit, credit, tolerance, absolute, floor);
+    split_kept(env, answer, table, u, v, values, stations, passes,
+               of_settings(limit, credit, tolerance, absolute, floor));
+}
+
+JNIEXPORT void JNICALL Java_merotunki_Native_profileOrderedSvd(JNIEnv *env, jclass self, jlongArray answer,
+                                                               jdoubleArray table, jdoubleArray u, jdoubleArray v,
+                                                               jdoubleArray values, jint stations, jint passes,
+                                                               jint profile) {
+    (void)self;
+    split_kept(env, answer, table, u, v, values, stations, passes, of_profile(profile));
 }
 
 JNIEXPORT void JNICALL Java_merotunki_Native_defaults(JNIEnv *env, jclass self, jdoubleArray choice) {
@@ -131,9 +184,20 @@ JNIEXPORT void JNICALL Java_merotunki_Native_defaults(JNIEnv *env, jclass self, 
     (void)self;
     merotunki_defaults(&c);
     {
-        const double told[5] = {(double)c.limit, (double)c.credit, c.tolerance, c.absolute, c.floor};
-        (*env)->SetDoubleArrayRegion(env, choice, 0, 5, told);
+        const double list[5] = {(double)c.limit, (double)c.credit, c.tolerance, c.absolute, c.floor};
+        (*env)->SetDoubleArrayRegion(env, choice, 0, 5, list);
     }
+}
+
+JNIEXPORT jint JNICALL Java_merotunki_Native_profile(JNIEnv *env, jclass self, jdoubleArray choice, jint profile) {
+    merotunki_profile_answer p;
+    (void)self;
+    merotunki_profile(&p, (size_t)profile);
+    {
+        const double list[5] = {(double)p.limit, (double)p.credit, p.tolerance, p.absolute, p.floor};
+        (*env)->SetDoubleArrayRegion(env, choice, 0, 5, list);
+    }
+    return (jint)p.number;
 }
 
 JNIEXPORT jdouble JNICALL Java_merotunki_Native_squareRoot(JNIEnv *env, jclass self, jdouble x) {

@@ -2,6 +2,8 @@
 // Prints each check that fails, then `N checks passed`; status 1 where one failed. The last check wants a heap of fixed
 // size that is touched at the start, so that Java's own does not grow: -Xms64m -Xmx64m -XX:+AlwaysPreTouch
 
+import java.lang.reflect.Constructor;
+import java.lang.reflect.Method;
 import java.util.Arrays;
 import java.util.concurrent.CyclicBarrier;
 import java.util.concurrent.ExecutorService;
@@ -9,6 +11,7 @@ import java.util.concurrent.Executors;
 import java.util.concurrent.Future;
 import java.util.stream.IntStream;
 import merotunki.FullSplit;
+import merotunki.Instrument;
 import merotunki.Merotunki;
 import merotunki.OrderedSplit;
 import merotunki.Refusal;
@@ -33,6 +36,14 @@ class TestMerotunki extends Checks {
                 what + ", full");
         refused(() -> Merotunki.splitInOrder(readings, stations, passes, PLAIN), number, station, pass, bad,
                 what + ", in order");
+        for (Instrument i : Instrument.values()) {
+            String by = what + ", " + i;
+            refused(() -> Merotunki.split(readings, stations, passes, i), number, station, pass, bad, by);
+            refused(() -> Merotunki.splitFull(readings, stations, passes, i), number, station, pass, bad,
+                    by + ", full");
+            refused(() -> Merotunki.splitInOrder(readings, stations, passes, i), number, station, pass, bad,
+                    by + ", in order");
+        }
         same(readings, were, what + " changes nothing");
         return refusal;
     }
@@ -314,9 +325,16 @@ class TestMerotunki extends Checks {
         thrown(NullPointerException.class, "readings", () -> Merotunki.split(null, 4, 3, PLAIN), "no array");
         thrown(NullPointerException.class, "readings", () -> Merotunki.splitFull(null, 4, 3, PLAIN), "no array, full");
         thrown(NullPointerException.class, "readings", () -> Merotunki.splitInOrder(null, 4, 3, PLAIN), "none, order");
-        thrown(NullPointerException.class, "settings", () -> Merotunki.split(twelve, 4, 3, null), "no settings");
-        thrown(NullPointerException.class, "settings", () -> Merotunki.splitFull(twelve, 4, 3, null), "none, full");
-        thrown(NullPointerException.class, "settings", () -> Merotunki.splitInOrder(twelve, 4, 3, null), "none, order");
+        Settings none = null;
+        thrown(NullPointerException.class, "settings", () -> Merotunki.split(twelve, 4, 3, none), "no settings");
+        thrown(NullPointerException.class, "settings", () -> Merotunki.splitFull(twelve, 4, 3, none), "none, full");
+        thrown(NullPointerException.class, "settings", () -> Merotunki.splitInOrder(twelve, 4, 3, none), "none, order");
+        Class<NullPointerException> no = NullPointerException.class;
+        Instrument bare = null;
+        thrown(no, "instrument", () -> Merotunki.split(twelve, 4, 3, bare), "no instrument");
+        thrown(no, "instrument", () -> Merotunki.splitFull(twelve, 4, 3, bare), "no instrument, full");
+        thrown(no, "instrument", () -> Merotunki.splitInOrder(twelve, 4, 3, bare), "no instrument, order");
+        thrown(no, "readings", () -> Merotunki.split(null, 4, 3, Instrument.VANE), "no array by instrument");
     }
 
     static void settings() throws Exception {
@@ -339,6 +357,107 @@ class TestMerotunki extends Checks {
                 .withFloor(Double.MIN_VALUE);
         check(s.limit == 100000 && s.credit == 1000 && s.tolerance == 0.0 && s.absolute == Double.MAX_VALUE
                 && s.floor == Double.MIN_VALUE, "the bounds are allowed");
+    }
+
+    static void areSettings(Settings s, int limit, int credit, double tolerance, double absolute, String what) {
+        check(s.limit == limit && s.credit == credit, "limit and credit of " + what);
+        same(new double[] {s.tolerance, s.absolute, s.floor}, new double[] {tolerance, absolute, 1e-21},
+                "the bounds of " + what);
+    }
+
+    static void sameReport(Report a, Report b, String what) {
+        reported(a, b.toString(), b.sweeps, b.drops, b.range, b.rotations);
+        check(a.word == b.word && a.passes == b.passes, "the report by instrument, " + what);
+    }
+
+    static void sameSplit(FullSplit a, FullSplit b, String what) {
+        sameReport(a.report, b.report, what);
+        same(a.matrix(), b.matrix(), "the matrix by instrument, " + what);
+        same(a.u(), b.u(), "U by instrument, " + what);
+        same(a.v(), b.v(), "V by instrument, " + what);
+        same(a.values(), b.values(), "the values by instrument, " + what);
+    }
+
+    // By instrument each split is the one with its settings. Answers how it ended: 0 settled, 1 stopped, 2 quiet, 3
+    // settled with a value that is none.
+    static int byInstrument(double[] readings, int stations, int passes, Instrument i, String what) throws Exception {
+        Split plain = Merotunki.split(readings, stations, passes, i);
+        Split with = Merotunki.split(readings, stations, passes, i.settings());
+        sameReport(plain.report, with.report, what);
+        same(plain.matrix(), with.matrix(), "the matrix alone by instrument, " + what);
+        sameSplit(Merotunki.splitFull(readings, stations, passes, i),
+                Merotunki.splitFull(readings, stations, passes, i.settings()), what);
+        OrderedSplit ordered;
+        try {
+            ordered = Merotunki.splitInOrder(readings, stations, passes, i.settings());
+        } catch (Refusal wanted) {
+            Refusal said = refused(() -> Merotunki.splitInOrder(readings, stations, passes, i), wanted.number, what);
+            if (said != null && said.run != null) {
+                sameSplit(said.run, wanted.run, what + ", refused by " + wanted.number);
+            }
+            return wanted.number == Refusal.VALUE ? 3 : with.report.word.ordinal();
+        }
+        sameSplit(Merotunki.splitInOrder(readings, stations, passes, i), ordered, what + ", in order");
+        return with.report.word.ordinal();
+    }
+
+    static void instruments() throws Exception {
+        Instrument[] all = Instrument.values();
+        check(Arrays.toString(all).equals("[vane, hot wire, ultrasonic, smoke tube]"), "the instruments' names");
+        for (int i = 0; i < all.length; i++) {
+            check(all[i].number == i + 1, all[i] + " has the number " + (i + 1));
+        }
+        areSettings(Instrument.VANE.settings(), 100, 50, 1e-10, 1e-12, "the vane");
+        areSettings(Instrument.HOT_WIRE.settings(), 200, 50, 1e-12, 1e-13, "the hot wire");
+        areSettings(Instrument.ULTRASONIC.settings(), 400, 100, 1e-13, 1e-14, "the ultrasonic one");
+        areSettings(Instrument.SMOKE_TUBE.settings(), 50, 25, 1e-6, 1e-8, "the smoke tube");
+        areSettings(PLAIN, 100, 50, 1e-10, 1e-12, "the defaults, which are the vane's");
+        double[] large = {Double.MAX_VALUE, Double.MAX_VALUE};
+        for (Instrument i : all) {
+            boolean[] met = new boolean[4];
+            for (int seed = 0; seed < 120; seed++) {
+                int stations = 1 + seed / 2 % 6;
+                int passes = 1 + seed / 12 % 6;
+                double[] readings = drawn(seed, stations * passes);
+                if (seed % 2 == 1) {
+                    Arrays.setAll(readings, k -> readings[k] < 5.0 ? 0.0 : readings[k]);
+                }
+                met[byInstrument(readings, stations, passes, i, i + ", seed " + seed)] = true;
+            }
+            met[byInstrument(drawn(7, 48 * 48), 48, 48, i, i + ", 48 x 48")] = true;
+            met[byInstrument(new double[] {0.0, 1.0, 0.0, 1.0}, 2, 2, i, i + ", no first")] = true;
+            met[byInstrument(large, 1, 2, i, i + ", large")] = true;
+            check(met[0] && met[1] && met[2] && met[3], i + " ends in every way");
+            // zeros make as many passes as the limit says
+            Report calm = Merotunki.split(new double[48 * 48], 48, 48, i).report;
+            int limit = i.settings().limit;
+            reported(calm, "quiet, passes " + limit + ", range left 48", limit, 0, 48, 2 * 47 * limit);
+        }
+    }
+
+    // A number that no instrument has, which these classes cannot hand in: the calls beneath them refuse it.
+    static void noSuchProfile() throws Exception {
+        Class<?> calls = Class.forName("merotunki.Native");
+        Method profile = calls.getDeclaredMethod("profile", double[].class, int.class);
+        Method split = calls.getDeclaredMethod("profileSvd", long[].class, double[].class, int.class, int.class,
+                int.class);
+        profile.setAccessible(true);
+        split.setAccessible(true);
+        for (int number : new int[] {0, 5, -1, Integer.MAX_VALUE, Integer.MIN_VALUE}) {
+            double[] choice = {9.0, 9.0, 9.0, 9.0, 9.0};
+            check(Integer.valueOf(Refusal.PROFILE).equals(profile.invoke(null, choice, number)), "profile " + number);
+            same(choice, new double[5], "no settings of profile " + number);
+            double[] table = {3.0, 4.0};
+            long[] answer = new long[10];
+            Arrays.fill(answer, 99);
+            split.invoke(null, answer, table, 2, 1, number);
+            check(Arrays.equals(answer, new long[] {10, 0, 0, 0, 0, 0, 0, 0, 0, 0}), "10 for profile " + number);
+            same(table, new double[] {3.0, 4.0}, "nothing is written by profile " + number);
+        }
+        Constructor<Refusal> made = Refusal.class.getDeclaredConstructor(int.class);
+        made.setAccessible(true);
+        Refusal refusal = made.newInstance(Refusal.PROFILE);
+        check(refusal.number == 10 && refusal.getMessage().equals("There is no such profile."), "the text of 10");
     }
 
     static void roots() {
@@ -386,8 +505,10 @@ class TestMerotunki extends Checks {
                 before = held();
             }
             FullSplit split = i % 2 == 0
-                    ? Merotunki.splitFull(readings, 4, 3, PLAIN)
-                    : Merotunki.splitInOrder(readings, 4, 3, PLAIN);
+                    ? i % 4 == 0 ? Merotunki.splitFull(readings, 4, 3, PLAIN)
+                                 : Merotunki.splitFull(readings, 4, 3, Instrument.HOT_WIRE)
+                    : (i & 3) == 1 ? Merotunki.splitInOrder(readings, 4, 3, PLAIN)
+                                   : Merotunki.splitInOrder(readings, 4, 3, Instrument.ULTRASONIC);
             good &= split.report.word == Report.Word.SETTLED;
             if (i % 10 == 0) {
                 try {
@@ -411,6 +532,8 @@ class TestMerotunki extends Checks {
         inOrder();
         refusals();
         settings();
+        instruments();
+        noSuchProfile();
         roots();
         twoThreads();
         manyCalls();

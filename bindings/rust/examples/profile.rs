@@ -1,6 +1,6 @@
 //! Splits the survey of samples/leaking-stopping.csv and prints what an app would show of it. No sign
 //! has to be chosen: (-u, -v) for (u, v), or (-u, -s) for (u, s), gives the same profile and drift.
-use merotunki::{Refusal, Settings, Table, Unordered};
+use merotunki::{Instrument, Refusal, Table, Unordered};
 
 const PASSES: usize = 6;
 const READINGS: [f64; 12 * PASSES] = [
@@ -34,15 +34,15 @@ fn main() -> Result<(), Refusal> {
     let mut values = [0.0; PASSES];
     // in order the strongest is the first; of a run that stopped or is quiet the values stand on the
     // diagonal
-    let (report, factors, k, settled) =
-        match table.split_in_order(&mut values, &Settings::default()) {
-            Ok((report, factors)) => (report, factors, 0, true),
-            Err(Unordered { refusal: Refusal::NotSettled, run: Some((report, factors)) }) => {
-                values.iter_mut().zip(table.values()).for_each(|(to, value)| *to = value);
-                (report, factors, largest(&values), false)
-            }
-            Err(unordered) => return Err(unordered.refusal),
-        };
+    let (report, factors, k, settled) = match table.split_in_order_by(&mut values, Instrument::Vane)
+    {
+        Ok((report, factors)) => (report, factors, 0, true),
+        Err(Unordered { refusal: Refusal::NotSettled, run: Some((report, factors)) }) => {
+            values.iter_mut().zip(table.values()).for_each(|(to, value)| *to = value);
+            (report, factors, largest(&values), false)
+        }
+        Err(unordered) => return Err(unordered.refusal),
+    };
     println!("{report}");
     if READINGS.iter().all(|&x| x == 0.0) {
         println!("Calm: no air moved at any station. There is nothing to split.");

@@ -31,7 +31,7 @@ macro_rules! answer {
 }
 
 answer! {
-    /// 0 accepted, 1 to 8 and 11 to 13 refused.
+    /// 0 accepted, 1 to 8 and 10 to 13 refused.
     number,
     /// Station of the first reading that is infinite or NaN, row by row, counted from 0.
     row,

@@ -4,11 +4,11 @@
 //! fan's drift: U goes with the stations (row 4 of U is station 4), V with the passes.
 //!
 //! ```
-//! use merotunki::{Report, Settings, Table};
+//! use merotunki::{Instrument, Report, Table};
 //!
 //! let mut readings = [2.0, 0.0, 0.0, 1.0]; // 2 stations, 2 passes, station by station
 //! let mut table = Table::new(&mut readings, 2, 2)?;
-//! let (report, factors) = table.split_full(&Settings::default())?;
+//! let (report, factors) = table.split_full_by(Instrument::Vane)?;
 //! assert_eq!(report, Report::Settled { passes: 1, sweeps: 0, drops: 1, rotations: 0 });
 //! assert_eq!(table.values().collect::<Vec<_>>(), [-2.0, 1.0]);
 //! assert_eq!(factors.station(0), Some(&[-1.0, 0.0][..]));
@@ -16,7 +16,11 @@
 //! # Ok::<(), merotunki::Refusal>(())
 //! ```
 //!
-//! [`Table::split_in_order`] puts the values in order of size, largest first.
+//! [`Table::split_in_order_by`] puts the values in order of size, largest first.
+//!
+//! The surveyor picks the [`Instrument`], and the library has the settings for it. Where others are
+//! wanted, each split is there with [`Settings`], too: [`Table::split`], [`Table::split_full`] and
+//! [`Table::split_in_order`].
 //!
 //! Every check of sizes, lengths, settings and readings is the proved library's own; this crate asks
 //! it and does no arithmetic. The library has no heap, no global state and no locks, so tables may be
@@ -26,12 +30,14 @@
 #![deny(missing_docs, unsafe_code)]
 
 mod answer;
+mod instrument;
 mod outcome;
 #[allow(unsafe_code)]
 pub mod raw;
 mod settings;
 mod table;
 
+pub use instrument::Instrument;
 pub use outcome::{Refusal, Report};
 pub use settings::Settings;
 pub use table::{Factors, Table, Unordered};

@@ -59,7 +59,8 @@ impl fmt::Display for Report {
 }
 
 /// Why a call was refused, first reason first. Nothing has been written then, but for `NotSettled` and
-/// `Value`, which [`Table::split_in_order`](crate::Table::split_in_order) alone gives, after its run.
+/// `Value`, which the splits in order alone give ([`Table::split_in_order`](crate::Table::split_in_order)
+/// and that by instrument), after the run.
 ///
 /// ```
 /// use merotunki::{Refusal, Settings, Table};
@@ -91,6 +92,10 @@ pub enum Refusal {
     Count,
     /// 7: a tolerance, absolute bound or floor that is not allowed.
     Bound,
+    /// 10: there is no such profile. Only calls by profile number have it, in the place of 6 and 7. A
+    /// [`Table`](crate::Table) never gives it, since every [`Instrument`](crate::Instrument) has a
+    /// profile; it stands here as the library's number.
+    Profile,
     /// 8: a reading that is infinite or NaN. Station and pass, counted from 0, are those of the first
     /// such one, station by station.
     Reading {
@@ -109,7 +114,7 @@ pub enum Refusal {
 }
 
 // Every number but that of `Reading`, with its text.
-const PLAIN: [(u64, Refusal, &str); 10] = [
+const PLAIN: [(u64, Refusal, &str); 11] = [
     (1, Refusal::Empty, "The table has no stations or no passes."),
     (2, Refusal::Large, "The table has more than 48 stations or more than 48 passes."),
     (3, Refusal::Length, "The readings do not fill the table's stations and passes."),
@@ -118,6 +123,7 @@ const PLAIN: [(u64, Refusal, &str); 10] = [
     (11, Refusal::List, "The list of values is for a table with another number of values."),
     (6, Refusal::Count, "The limit is above 100000 or the credit is above 1000."),
     (7, Refusal::Bound, "A bound is below zero or no number, or the floor is not above zero."),
+    (10, Refusal::Profile, "There is no such profile."),
     (12, Refusal::NotSettled, "The run did not settle: its values are not final."),
     (13, Refusal::Value, "A value of the split is not a usable number."),
 ];
@@ -128,7 +134,7 @@ impl Refusal {
         PLAIN.iter().find(|(_, refusal, _)| refusal == self)
     }
 
-    /// The library's number for it: 1 to 8, 11 to 13.
+    /// The library's number for it: 1 to 8, 10 to 13.
     pub fn number(&self) -> u64 {
         self.plain().map_or(8, |(number, ..)| *number)
     }

@@ -25,11 +25,26 @@ pub struct Choice {
     pub floor: f64,
 }
 
-/// The number of the layout of [`Answer`], [`Part`] and [`Choice`] that this crate is written for. The
-/// library's own is [`layout`]; it rises whenever one of them changes.
+/// The settings of a profile: `merotunki_profile_answer`. The number is 0, or 10 where there is no such
+/// profile; then all else is 0.
+#[repr(C)]
+#[derive(Clone, Copy, Debug, Default, PartialEq)]
+#[allow(missing_docs)]
+pub struct ProfileAnswer {
+    pub number: u64,
+    pub limit: u64,
+    pub credit: u64,
+    pub tolerance: f64,
+    pub absolute: f64,
+    pub floor: f64,
+}
+
+/// The number of the layout of [`Answer`], [`Part`], [`Choice`] and [`ProfileAnswer`] that this crate is
+/// written for. The library's own is [`layout`]; it rises whenever one of them changes.
 pub const LAYOUT: u64 = 3;
 
 const _: () = assert!(size_of::<Part>() == 16 && size_of::<Choice>() == 40);
+const _: () = assert!(size_of::<ProfileAnswer>() == 48);
 const _: () = assert!(size_of::<usize>() == 8, "the library is for 64-bit machines");
 
 // A slice is a pointer and a length, one after the other. An answer is written where the first argument
@@ -85,6 +100,45 @@ unsafe extern "C" {
         floor: f64,
     ) -> *mut Answer;
 
+    pub fn merotunki_profile_svd(
+        answer: *mut Answer,
+        matrix: *mut f64,
+        matrix_length: usize,
+        rows: usize,
+        columns: usize,
+        profile: usize,
+    ) -> *mut Answer;
+
+    pub fn merotunki_profile_full_svd(
+        answer: *mut Answer,
+        matrix: *mut f64,
+        matrix_length: usize,
+        u: *mut f64,
+        u_length: usize,
+        v: *mut f64,
+        v_length: usize,
+        rows: usize,
+        columns: usize,
+        profile: usize,
+    ) -> *mut Answer;
+
+    pub fn merotunki_profile_ordered_svd(
+        answer: *mut Answer,
+        matrix: *mut f64,
+        matrix_length: usize,
+        u: *mut f64,
+        u_length: usize,
+        v: *mut f64,
+        v_length: usize,
+        values: *mut f64,
+        values_length: usize,
+        rows: usize,
+        columns: usize,
+        profile: usize,
+    ) -> *mut Answer;
+
+    pub fn merotunki_profile(answer: *mut ProfileAnswer, profile: usize) -> *mut ProfileAnswer;
+
     pub fn merotunki_identity(a: *mut f64, a_length: usize, n: usize) -> u64;
 
     pub fn merotunki_row(
@@ -126,33 +180,29 @@ fn expect_layout() {
     );
 }
 
-// The answer of a call that is lent these slices and told sizes and settings.
+// The answer of a call that is lent these slices and told these numbers.
 macro_rules! answered {
-    ($call:ident, [$($slice:ident),*], $rows:ident, $columns:ident, $c:ident) => {{
+    ($call:ident, [$($slice:ident),*], $($told:expr),*) => {{
         expect_layout();
         let mut a = Answer::default();
-        let (limit, credit) = ($c.limit as usize, $c.credit as usize);
         // SAFETY: as above.
-        unsafe {
-            $call(
-                &mut a,
-                $($slice.as_mut_ptr(), $slice.len(),)*
-                $rows,
-                $columns,
-                limit,
-                credit,
-                $c.tolerance,
-                $c.absolute,
-                $c.floor,
-            )
-        };
+        unsafe { $call(&mut a, $($slice.as_mut_ptr(), $slice.len(),)* $($told),*) };
         a
+    }};
+}
+
+// The answer of one that is told sizes and settings.
+macro_rules! with_settings {
+    ($call:ident, $slices:tt, $rows:ident, $columns:ident, $c:ident) => {{
+        let (limit, credit) = ($c.limit as usize, $c.credit as usize);
+        let (tolerance, absolute, floor) = ($c.tolerance, $c.absolute, $c.floor);
+        answered!($call, $slices, $rows, $columns, limit, credit, tolerance, absolute, floor)
     }};
 }
 
 /// `merotunki_svd` on a slice.
 pub fn svd(m: &mut [f64], rows: usize, columns: usize, c: Choice) -> Answer {
-    answered!(merotunki_svd, [m], rows, columns, c)
+    with_settings!(merotunki_svd, [m], rows, columns, c)
 }
 
 /// `merotunki_full_svd` on three slices.
@@ -163,7 +213,7 @@ pub fn full_svd(
     columns: usize,
     c: Choice,
 ) -> Answer {
-    answered!(merotunki_full_svd, [m, u, v], rows, columns, c)
+    with_settings!(merotunki_full_svd, [m, u, v], rows, columns, c)
 }
 
 /// `merotunki_ordered_svd` on four slices.
@@ -175,7 +225,44 @@ pub fn ordered_svd(
     columns: usize,
     c: Choice,
 ) -> Answer {
-    answered!(merotunki_ordered_svd, [m, u, v, values], rows, columns, c)
+    with_settings!(merotunki_ordered_svd, [m, u, v, values], rows, columns, c)
+}
+
+/// `merotunki_profile_svd` on a slice.
+pub fn profile_svd(m: &mut [f64], rows: usize, columns: usize, profile: usize) -> Answer {
+    answered!(merotunki_profile_svd, [m], rows, columns, profile)
+}
+
+/// `merotunki_profile_full_svd` on three slices.
+pub fn profile_full_svd(
+    m: &mut [f64],
+    (u, v): (&mut [f64], &mut [f64]),
+    rows: usize,
+    columns: usize,
+    profile: usize,
+) -> Answer {
+    answered!(merotunki_profile_full_svd, [m, u, v], rows, columns, profile)
+}
+
+/// `merotunki_profile_ordered_svd` on four slices.
+pub fn profile_ordered_svd(
+    m: &mut [f64],
+    (u, v): (&mut [f64], &mut [f64]),
+    values: &mut [f64],
+    rows: usize,
+    columns: usize,
+    profile: usize,
+) -> Answer {
+    answered!(merotunki_profile_ordered_svd, [m, u, v, values], rows, columns, profile)
+}
+
+/// `merotunki_profile`.
+pub fn profile(profile: usize) -> ProfileAnswer {
+    expect_layout();
+    let mut told = ProfileAnswer::default();
+    // SAFETY: as above.
+    unsafe { merotunki_profile(&mut told, profile) };
+    told
 }
 
 pub(crate) fn identity(a: &mut [f64], n: usize) -> u64 {

@@ -1,11 +1,12 @@
 //! The settings of a split.
 
 use crate::outcome::{Refusal, outcome};
-use crate::raw::{self, Choice};
+use crate::raw::{self, Choice, ProfileAnswer};
 
 /// Settings that the library allows: there are no others. They start as the defaults (limit 100, credit
 /// 50, tolerance 1e-10, absolute 1e-12, floor 1e-21), and each change is checked, by name, so that no
-/// two numbers can be confused.
+/// two numbers can be confused. An app whose surveyors pick an [`Instrument`](crate::Instrument) needs
+/// none.
 ///
 /// ```
 /// use merotunki::{Refusal, Settings};
@@ -29,6 +30,14 @@ impl Settings {
     // The library checks the settings when it splits, so it is given a table of one zero to split.
     fn checked(choice: Choice) -> Result<Self, Refusal> {
         outcome(raw::svd(&mut [0.0], 1, 1, choice)).map(|_| Settings(choice))
+    }
+
+    // Those of a profile that there is.
+    pub(crate) fn of_profile(profile: usize) -> Self {
+        let ProfileAnswer { number, limit, credit, tolerance, absolute, floor } =
+            raw::profile(profile);
+        assert_eq!(number, 0, "an instrument has a profile");
+        Settings(Choice { limit, credit, tolerance, absolute, floor })
     }
 
     /// With another limit, at most 100,000: the walk stops when its counter, one a pass, gets there.

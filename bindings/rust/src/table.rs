@@ -1,7 +1,8 @@
 //! A table of readings, and U and V.
 
+use crate::instrument::Instrument;
 use crate::outcome::{Refusal, Report, outcome, report};
-use crate::raw::{self, Choice};
+use crate::raw::{self, Answer, Choice};
 use crate::settings::Settings;
 use std::fmt;
 
@@ -10,10 +11,10 @@ use std::fmt;
 /// copied, and a split writes its result where they stood. Keep a copy where they are still wanted.
 ///
 /// ```
-/// use merotunki::{Refusal, Report, Settings, Table};
+/// use merotunki::{Instrument, Refusal, Report, Table};
 ///
 /// let mut readings = [3.0, 4.0]; // 2 stations, 1 pass
-/// let report = Table::new(&mut readings, 2, 1)?.split(&Settings::default())?;
+/// let report = Table::new(&mut readings, 2, 1)?.split_by(Instrument::Vane)?;
 /// assert_eq!(report, Report::Settled { passes: 0, sweeps: 0, drops: 0, rotations: 0 });
 /// assert_eq!(readings, [-5.0, 0.0]);
 /// assert_eq!(Table::new(&mut readings, 2, 2).unwrap_err(), Refusal::Length);
@@ -45,6 +46,11 @@ impl<'a> Table<'a> {
         outcome(raw::svd(self.entries, self.stations, self.passes, settings.choice()))
     }
 
+    /// Splits the table where it stands, by instrument: [`Table::split`] with the instrument's settings.
+    pub fn split_by(&mut self, instrument: Instrument) -> Result<Report, Refusal> {
+        outcome(raw::profile_svd(self.entries, self.stations, self.passes, instrument.number()))
+    }
+
     /// Splits the table where it stands and hands out U and V; table and report are those of
     /// [`Table::split`]. Refuses only `Reading`, and then hands out nothing.
     ///
@@ -67,6 +73,27 @@ impl<'a> Table<'a> {
         let mut factors = Factors::begun(stations, passes);
         let answer =
             raw::full_svd(self.entries, factors.lent(), stations, passes, settings.choice());
+        outcome(answer).map(|report| (report, factors))
+    }
+
+    /// The split with U and V by instrument: [`Table::split_full`] with the instrument's settings.
+    ///
+    /// ```
+    /// use merotunki::{Instrument, Refusal, Table};
+    ///
+    /// let split = |instrument: Instrument| -> Result<String, Refusal> {
+    ///     let mut readings = [1.0, 1e-9, 0.0, 1.0]; // 2 stations, 2 passes
+    ///     let (report, _) = Table::new(&mut readings, 2, 2)?.split_full_by(instrument)?;
+    ///     Ok(format!("{instrument}: {report}, rotations {}", report.rotations()))
+    /// };
+    /// assert_eq!(split(Instrument::Vane)?, "vane: settled, passes 2, rotations 2");
+    /// assert_eq!(split(Instrument::SmokeTube)?, "smoke tube: settled, passes 1, rotations 0");
+    /// # Ok::<(), Refusal>(())
+    /// ```
+    pub fn split_full_by(&mut self, instrument: Instrument) -> Result<(Report, Factors), Refusal> {
+        let (stations, passes, profile) = (self.stations, self.passes, instrument.number());
+        let mut factors = Factors::begun(stations, passes);
+        let answer = raw::profile_full_svd(self.entries, factors.lent(), stations, passes, profile);
         outcome(answer).map(|report| (report, factors))
     }
 
@@ -109,13 +136,34 @@ impl<'a> Table<'a> {
         let mut factors = Factors::begun(stations, passes);
         let answer =
             raw::ordered_svd(self.entries, factors.lent(), values, stations, passes, choice);
-        match outcome(answer) {
-            Ok(report) => Ok((report, factors)),
-            Err(refusal) => {
-                let run = refusal.after_run().then(|| (report(answer), factors));
-                Err(Unordered { refusal, run })
-            }
-        }
+        ordered(answer, factors)
+    }
+
+    /// The split in order by instrument: [`Table::split_in_order`] with the instrument's settings.
+    ///
+    /// ```
+    /// use merotunki::{Instrument, Refusal, Table};
+    ///
+    /// let mut readings = [1.0, 0.0, 0.0, 2.0]; // 2 stations, 2 passes
+    /// let mut table = Table::new(&mut readings, 2, 2)?;
+    /// let mut values = [0.0; 2];
+    /// let (_, factors) = table.split_in_order_by(&mut values, Instrument::Ultrasonic)?;
+    /// assert_eq!(values, [2.0, 1.0]);
+    /// assert_eq!(factors.over_stations(0).unwrap().collect::<Vec<_>>(), [0.0, 1.0]);
+    /// # Ok::<(), Refusal>(())
+    /// ```
+    #[allow(clippy::result_large_err)] // as above
+    pub fn split_in_order_by(
+        &mut self,
+        values: &mut [f64],
+        instrument: Instrument,
+    ) -> Result<(Report, Factors), Unordered> {
+        let (stations, passes, profile) = (self.stations, self.passes, instrument.number());
+        let mut factors = Factors::begun(stations, passes);
+        let lent = factors.lent();
+        let answer =
+            raw::profile_ordered_svd(self.entries, lent, values, stations, passes, profile);
+        ordered(answer, factors)
     }
 
     /// The values, as the method leaves them on the diagonal: in no order and of either sign.
@@ -129,6 +177,18 @@ impl<'a> Table<'a> {
     }
 }
 
+// What the answer of an ordered call says, with the U and V that it was lent.
+#[allow(clippy::result_large_err)] // as above
+fn ordered(answer: Answer, factors: Factors) -> Result<(Report, Factors), Unordered> {
+    match outcome(answer) {
+        Ok(report) => Ok((report, factors)),
+        Err(refusal) => {
+            let run = refusal.after_run().then(|| (report(answer), factors));
+            Err(Unordered { refusal, run })
+        }
+    }
+}
+
 // The library's identity of that many rows.
 fn identity(n: usize) -> Vec<f64> {
     let mut a = vec![0.0; n * n];
@@ -136,7 +196,7 @@ fn identity(n: usize) -> Vec<f64> {
     a
 }
 
-/// Why [`Table::split_in_order`] put no values in order.
+/// Why [`Table::split_in_order`] or [`Table::split_in_order_by`] put no values in order.
 #[derive(Clone, Debug, PartialEq)]
 pub struct Unordered {
     /// The refusal.
@@ -162,7 +222,8 @@ impl From<Unordered> for Refusal {
 
 /// U (stations x stations) and V (passes x passes) of one split. They cannot be made otherwise nor
 /// changed. As [`Table::split_full`] hands them out, the readings were U x entries x (V transposed),
-/// but for rounding; as [`Table::split_in_order`] does, their columns have moved with the values.
+/// but for rounding; as [`Table::split_in_order`] does, their columns have moved with the values. The
+/// splits by instrument are the same.
 ///
 /// A station's row of U and a pass's row of V are [`Factors::station`] and [`Factors::pass`]. What
 /// belongs to value k are the columns k: [`Factors::over_stations`] and [`Factors::over_passes`].

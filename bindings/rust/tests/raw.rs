@@ -1,6 +1,7 @@
 //! The library's own functions as raw.rs declares them: every number in its order with nothing written,
-//! where bad readings are and how many, the numbers that come after the run, the identity's refusals,
-//! every way that a row is not fit, factors of one's own, and the layout.
+//! where bad readings are and how many, the numbers that come after the run, the calls by profile number
+//! beside those with its settings, the identity's refusals, every way that a row is not fit, factors of
+//! one's own, and the layout.
 
 use merotunki::raw::*;
 
@@ -11,6 +12,7 @@ struct Lent {
     columns: usize,
     lengths: [usize; 4],
     choice: Choice,
+    profile: usize,
     entries: [Vec<f64>; 4],
 }
 
@@ -22,11 +24,11 @@ fn fit() -> Lent {
     let none = |x: f64| vec![x; 20];
     let entries =
         [(1..=20).map(f64::from).collect(), none(f64::NAN), none(f64::INFINITY), none(-f64::NAN)];
-    Lent { rows: 4, columns: 3, lengths: [12, 16, 9, 3], choice, entries }
+    Lent { rows: 4, columns: 3, lengths: [12, 16, 9, 3], choice, profile: 1, entries }
 }
 
 // The numbers that come before a run, in their order.
-const NUMBERS: [u64; 9] = [1, 2, 3, 4, 5, 11, 6, 7, 8];
+const NUMBERS: [u64; 10] = [1, 2, 3, 4, 5, 11, 6, 7, 10, 8];
 
 // Unfit for that number and for no other.
 fn spoil(l: &mut Lent, number: u64) {
@@ -39,6 +41,7 @@ fn spoil(l: &mut Lent, number: u64) {
         11 => l.lengths[3] = 4,
         6 => l.choice.credit = 1001,
         7 => l.choice.absolute = f64::NAN,
+        10 => l.profile = 5,
         _ => (l.entries[0][5], l.entries[0][7]) = (f64::NEG_INFINITY, f64::NAN),
     }
 }
@@ -50,17 +53,37 @@ enum Call {
     Ordered,
 }
 
-impl Call {
-    fn has(self, number: u64) -> bool {
-        match self {
-            Call::Plain => ![4, 5, 11].contains(&number),
-            Call::Full => number != 11,
-            Call::Ordered => true,
-        }
-    }
+// How it is told its settings.
+#[derive(Clone, Copy)]
+enum Told {
+    Settings,
+    Profile,
 }
 
-fn call(l: &mut Lent, which: Call) -> Answer {
+const EACH: [(Call, Told); 6] = [
+    (Call::Plain, Told::Settings),
+    (Call::Full, Told::Settings),
+    (Call::Ordered, Told::Settings),
+    (Call::Plain, Told::Profile),
+    (Call::Full, Told::Profile),
+    (Call::Ordered, Told::Profile),
+];
+
+// Whether the call has the number: 10 stands in the place of 6 and 7.
+fn has((which, told): (Call, Told), number: u64) -> bool {
+    let lengths = match which {
+        Call::Plain => ![4, 5, 11].contains(&number),
+        Call::Full => number != 11,
+        Call::Ordered => true,
+    };
+    let settings = match told {
+        Told::Settings => number != 10,
+        Told::Profile => ![6, 7].contains(&number),
+    };
+    lengths && settings
+}
+
+fn call(l: &mut Lent, which: (Call, Told)) -> Answer {
     let mut answer = Answer::from([99; Answer::NAMES.len()]);
     let given: *mut Answer = &mut answer;
     let c = l.choice;
@@ -68,15 +91,25 @@ fn call(l: &mut Lent, which: Call) -> Answer {
     let [m, u, v, w] = l.entries.each_mut().map(|entries| entries.as_mut_ptr());
     let [ml, ul, vl, wl] = l.lengths;
     let (rows, columns, t, a, f) = (l.rows, l.columns, c.tolerance, c.absolute, c.floor);
+    let p = l.profile;
     let back = unsafe {
         match which {
-            Call::Plain => merotunki_svd(given, m, ml, rows, columns, limit, credit, t, a, f),
-            Call::Full => merotunki_full_svd(
+            (Call::Plain, Told::Settings) => {
+                merotunki_svd(given, m, ml, rows, columns, limit, credit, t, a, f)
+            }
+            (Call::Full, Told::Settings) => merotunki_full_svd(
                 given, m, ml, u, ul, v, vl, rows, columns, limit, credit, t, a, f,
             ),
-            Call::Ordered => merotunki_ordered_svd(
+            (Call::Ordered, Told::Settings) => merotunki_ordered_svd(
                 given, m, ml, u, ul, v, vl, w, wl, rows, columns, limit, credit, t, a, f,
             ),
+            (Call::Plain, Told::Profile) => merotunki_profile_svd(given, m, ml, rows, columns, p),
+            (Call::Full, Told::Profile) => {
+                merotunki_profile_full_svd(given, m, ml, u, ul, v, vl, rows, columns, p)
+            }
+            (Call::Ordered, Told::Profile) => {
+                merotunki_profile_ordered_svd(given, m, ml, u, ul, v, vl, w, wl, rows, columns, p)
+            }
         }
     };
     assert_eq!(back, given);
@@ -89,8 +122,8 @@ fn patterns(l: &Lent) -> Vec<u64> {
 
 #[test]
 fn every_number_comes_first_and_writes_nothing() {
-    for which in [Call::Plain, Call::Full, Call::Ordered] {
-        for (at, first) in NUMBERS.into_iter().enumerate().filter(|(_, n)| which.has(*n)) {
+    for which in EACH {
+        for (at, first) in NUMBERS.into_iter().enumerate().filter(|(_, n)| has(which, *n)) {
             for &other in &NUMBERS[at..] {
                 let mut l = fit();
                 spoil(&mut l, first);
@@ -113,7 +146,7 @@ fn every_number_comes_first_and_writes_nothing() {
         assert!(rotations % 2 == 0 && (2 * sweeps..=4 * sweeps).contains(&rotations) && sweeps > 0);
         assert_ne!(patterns(&l)[..12], before[..12]);
         assert_eq!(patterns(&l)[12..20], before[12..20]);
-        let listed = matches!(which, Call::Ordered);
+        let listed = matches!(which, (Call::Ordered, _));
         assert_eq!(listed, patterns(&l)[60..63] != before[60..63]);
         assert_eq!(patterns(&l)[63..], before[63..]);
     }
@@ -175,6 +208,163 @@ fn two_numbers_come_after_the_run() {
         assert_eq!((by_m, by_u, by_v), (m, u, v));
         assert_eq!(values, vec![7.0; rows.min(columns)]);
     }
+}
+
+// The settings of the profiles: number, limit, credit, tolerance, absolute. The floor is the default.
+const PROFILES: [(usize, u64, u64, f64, f64); 4] = [
+    (1, 100, 50, 1e-10, 1e-12),
+    (2, 200, 50, 1e-12, 1e-13),
+    (3, 400, 100, 1e-13, 1e-14),
+    (4, 50, 25, 1e-6, 1e-8),
+];
+
+// Numbers that no profile has. Of the fourth the lower 32 bits are those of one.
+const NONE: [usize; 6] = [0, 5, usize::MAX, (1 << 32) + 2, 256 + 1, 1 << 63];
+
+#[test]
+fn profiles_have_these_settings() {
+    for (n, limit, credit, tolerance, absolute) in PROFILES {
+        let told = profile(n);
+        assert_eq!((told.number, told.limit, told.credit), (0, limit, credit));
+        let bounds = [told.tolerance, told.absolute, told.floor].map(f64::to_bits);
+        assert_eq!(bounds, [tolerance, absolute, 1e-21].map(f64::to_bits));
+    }
+    for n in NONE {
+        let mut told = ProfileAnswer {
+            number: 99,
+            limit: 99,
+            credit: 99,
+            tolerance: 9.0,
+            absolute: 9.0,
+            floor: 9.0,
+        };
+        let given: *mut ProfileAnswer = &mut told;
+        assert_eq!(unsafe { merotunki_profile(given, n) }, given);
+        assert_eq!((told.number, told.limit, told.credit), (10, 0, 0));
+        assert_eq!([told.tolerance, told.absolute, told.floor].map(f64::to_bits), [0; 3]);
+        assert_eq!(profile(n), told);
+    }
+    let (vane, defaults) = (profile(1), fit().choice);
+    assert_eq!((vane.limit, vane.credit), (defaults.limit, defaults.credit));
+    assert_eq!((vane.tolerance, vane.absolute), (defaults.tolerance, defaults.absolute));
+    assert_eq!(vane.floor, defaults.floor);
+}
+
+// 10 alone: the answer has nothing else, and all that was lent is as it was.
+#[test]
+fn there_is_no_such_profile() {
+    for which in EACH.into_iter().filter(|which| has(*which, 10)) {
+        for n in NONE {
+            let mut l = Lent { profile: n, ..fit() };
+            let before = patterns(&l);
+            assert_eq!(call(&mut l, which), Answer { number: 10, ..Answer::default() });
+            assert_eq!(patterns(&l), before);
+        }
+        for (n, ..) in PROFILES {
+            assert_eq!(call(&mut Lent { profile: n, ..fit() }, which).number, 0);
+        }
+    }
+}
+
+// Entries that follow a rule by its seed: drawn, whole numbers, mostly zeros, or few different ones.
+fn table(seed: usize, length: usize) -> Vec<f64> {
+    let mut state = seed as u64;
+    let mut next = || {
+        state = state.wrapping_mul(6364136223846793005).wrapping_add(1442695040888963407);
+        (state >> 11) as f64 / 562949953421312.0 - 8.0
+    };
+    let drawn: Vec<f64> = (0..length).map(|_| next()).collect();
+    match seed % 4 {
+        0 => drawn,
+        1 => drawn.iter().map(|x| x.trunc()).collect(),
+        2 => drawn.iter().map(|&x| if x > 4.0 { x } else { 0.0 }).collect(),
+        _ => (0..length).map(|i| drawn[i % length.min(4)]).collect(),
+    }
+}
+
+// All that a call comes to, every NaN alike: the answer, and what it leaves.
+fn left(l: &Lent, answer: Answer) -> (Answer, Vec<u64>) {
+    let one = |x: f64| if x.is_nan() { f64::NAN } else { x };
+    (answer, l.entries.iter().flatten().map(|x| one(*x).to_bits()).collect())
+}
+
+// By profile number each call is what it is with that profile's settings: accepted, stopped, quiet, and
+// refused by each number that both have, before the run and after it.
+#[test]
+fn by_profile_is_with_its_settings() {
+    for (n, limit, credit, tolerance, absolute) in PROFILES {
+        let choice = Choice { limit, credit, tolerance, absolute, floor: 1e-21 };
+        let (mut numbers, mut words) = (vec![0; 14], vec![0; 4]);
+        let mut compared = |l: &Lent| {
+            for which in [Call::Plain, Call::Full, Call::Ordered] {
+                // with the other's settings unfit and its profile none: they are not looked at
+                let mut with = Lent { choice, profile: 0, ..l.clone() };
+                let unfit = Choice { limit: u64::MAX, floor: f64::NAN, ..choice };
+                let mut by = Lent { choice: unfit, profile: n, ..l.clone() };
+                let answer = call(&mut with, (which, Told::Settings));
+                let other = call(&mut by, (which, Told::Profile));
+                assert_eq!(left(&by, other), left(&with, answer));
+                numbers[answer.number as usize] += 1;
+                words[answer.word as usize] += 1;
+                let c = l.rows.min(l.columns) as u64;
+                let most = if c > 1 { limit + credit * (c - 2) } else { 0 };
+                assert!(
+                    answer.passes <= most && answer.rotations <= 2 * c.saturating_sub(1) * most
+                );
+            }
+        };
+        let made = |rows: usize, columns: usize, m: Vec<f64>, seed: usize| Lent {
+            rows,
+            columns,
+            lengths: [rows * columns, rows * rows, columns * columns, rows.min(columns)],
+            entries: [
+                m,
+                table(4 * seed, rows * rows),
+                table(4 * seed + 4, columns * columns),
+                vec![7.0; rows.min(columns)],
+            ],
+            ..fit()
+        };
+        for seed in 0..400 {
+            let (rows, columns) = (1 + seed / 4 % 7, 1 + seed / 28 % 7);
+            compared(&made(rows, columns, table(seed, rows * columns), seed));
+        }
+        for (rows, columns) in [(48, 48), (48, 3), (3, 48), (1, 48), (48, 1)] {
+            for seed in 0..4 {
+                compared(&made(rows, columns, table(seed, rows * columns), seed));
+            }
+            compared(&made(rows, columns, vec![0.0; rows * columns], 1));
+            compared(&made(rows, columns, vec![f64::MAX; rows * columns], 1));
+        }
+        for number in NUMBERS.into_iter().filter(|n| ![6, 7, 10].contains(n)) {
+            let mut l = fit();
+            spoil(&mut l, number);
+            compared(&l);
+        }
+        for number in [0, 1, 2, 3, 4, 5, 8, 11, 12, 13] {
+            assert!(numbers[number] > 0, "profile {n} was never refused by {number}: {numbers:?}");
+        }
+        assert_eq!([6, 7, 10].map(|number| numbers[number]), [0; 3]);
+        assert!(words[1..].iter().all(|met| *met > 20), "profile {n}: {words:?}");
+    }
+}
+
+// A table of zeros makes as many passes as the limit says, each a sweep over all 48 values. Where the
+// coupling of (1, x), (0, 1) is below a profile's bounds, the first pass is a drop, and the last.
+#[test]
+fn profiles_differ() {
+    for (n, limit, ..) in PROFILES {
+        let answer = profile_svd(&mut [0.0; 48 * 48], 48, 48, n);
+        assert_eq!((answer.word, answer.passes), (Answer::QUIET, limit));
+        assert_eq!(answer.rotations, 2 * 47 * limit);
+    }
+    let dropped =
+        |x: f64| [1, 2, 3, 4].map(|n| profile_svd(&mut [1.0, x, 0.0, 1.0], 2, 2, n).sweeps == 0);
+    assert_eq!(dropped(5e-15), [true, true, true, true]);
+    assert_eq!(dropped(5e-14), [true, true, false, true]);
+    assert_eq!(dropped(5e-13), [true, false, false, true]);
+    assert_eq!(dropped(5e-12), [false, false, false, true]);
+    assert_eq!(dropped(5e-8), [false; 4]);
 }
 
 #[test]

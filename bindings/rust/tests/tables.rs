@@ -1,7 +1,9 @@
 //! The wrapper's types on known tables, and every refusal that they can give, with nothing written but
 //! what a run has left.
 
-use merotunki::{Factors, MOST, Refusal, Report, Settings, Table, Unordered, square_root};
+use merotunki::{
+    Factors, Instrument, MOST, Refusal, Report, Settings, Table, Unordered, square_root,
+};
 
 // The same numbers for the same seed, between -8 and 8.
 fn drawn(seed: u64, length: usize) -> Vec<f64> {
@@ -186,6 +188,83 @@ fn rotations_pass_by_pass() {
         }
     }
     assert!(all_sweeps > 40 && all_drops > 20, "{all_sweeps} sweeps, {all_drops} drops");
+}
+
+// The instruments: their numbers, names and settings.
+#[test]
+fn instruments() {
+    use Instrument::*;
+    assert_eq!(Instrument::ALL, [Vane, HotWire, Ultrasonic, SmokeTube]);
+    assert_eq!(Instrument::ALL.map(Instrument::number), [1, 2, 3, 4]);
+    assert_eq!(Instrument::ALL.map(|i| i as usize), [1, 2, 3, 4]);
+    let names = ["vane", "hot wire", "ultrasonic", "smoke tube"];
+    assert_eq!(Instrument::ALL.map(Instrument::name), names);
+    assert_eq!(Instrument::ALL.map(|i| i.to_string()), names);
+    let numbers = |i: Instrument| (i.settings().limit(), i.settings().credit());
+    assert_eq!(Instrument::ALL.map(numbers), [(100, 50), (200, 50), (400, 100), (50, 25)]);
+    let bounds = |i: Instrument| {
+        let s = i.settings();
+        bits(&[s.tolerance(), s.absolute(), s.floor()])
+    };
+    let wanted =
+        [[1e-10, 1e-12, 1e-21], [1e-12, 1e-13, 1e-21], [1e-13, 1e-14, 1e-21], [1e-6, 1e-8, 1e-21]];
+    assert_eq!(Instrument::ALL.map(bounds), wanted.map(|w| bits(&w)));
+    assert_eq!(Vane.settings(), Settings::default());
+    let different: std::collections::HashSet<Instrument> = Instrument::ALL.into_iter().collect();
+    assert_eq!(different.len(), 4);
+    // from here on they are settings like others
+    assert_eq!(SmokeTube.settings().with_limit(7).map(|s| s.limit()), Ok(7));
+}
+
+// By instrument each split is the one with its settings: report, table, U, V and list, and refusals.
+#[test]
+fn by_instrument() {
+    let mut ends = std::collections::HashSet::new();
+    for instrument in Instrument::ALL {
+        let settings = instrument.settings();
+        let mut compared = |was: &[f64], stations: usize, passes: usize| {
+            let (mut a, mut b) = (was.to_vec(), was.to_vec());
+            let with = Table::new(&mut a, stations, passes).unwrap().split(&settings);
+            let by = Table::new(&mut b, stations, passes).unwrap().split_by(instrument);
+            assert_eq!((by, bits(&b)), (with, bits(&a)));
+
+            let (mut a, mut b) = (was.to_vec(), was.to_vec());
+            let with = Table::new(&mut a, stations, passes).unwrap().split_full(&settings);
+            let by = Table::new(&mut b, stations, passes).unwrap().split_full_by(instrument);
+            assert_eq!((by, bits(&b)), (with, bits(&a)));
+
+            for length in [stations.min(passes), stations.min(passes) + 1] {
+                let (mut a, mut b) = (was.to_vec(), was.to_vec());
+                let (mut list, mut other) = (vec![7.0; length], vec![7.0; length]);
+                let mut table = Table::new(&mut a, stations, passes).unwrap();
+                let with = table.split_in_order(&mut list, &settings);
+                let mut table = Table::new(&mut b, stations, passes).unwrap();
+                let by = table.split_in_order_by(&mut other, instrument);
+                assert_eq!((&by, bits(&b), bits(&other)), (&with, bits(&a), bits(&list)));
+                ends.insert(match by {
+                    Ok(_) => 0,
+                    Err(Unordered { refusal, run: None }) => refusal.number(),
+                    Err(Unordered { run: Some((Report::Quiet { .. }, _)), .. }) => 120,
+                    Err(Unordered { refusal, .. }) => refusal.number(),
+                });
+            }
+        };
+        for seed in 0..120 {
+            let (stations, passes) = (1 + seed / 2 % 6, 1 + seed / 12 % 6);
+            let mut was = drawn(seed as u64, stations * passes);
+            was.iter_mut().filter(|x| seed % 2 == 1 && **x < 5.0).for_each(|x| *x = 0.0);
+            compared(&was, stations, passes);
+        }
+        compared(&drawn(7, MOST * MOST), MOST, MOST);
+        compared(&[0.0, 1.0, 0.0, 1.0], 2, 2);
+        compared(&[0.0; 12], 3, 4);
+        compared(&[f64::MAX; 2], 1, 2);
+        compared(&[1.0, f64::NAN, f64::INFINITY, 2.0], 2, 2);
+    }
+    // accepted, the list, a reading, stopped, a value, quiet
+    let mut ends: Vec<u64> = ends.into_iter().collect();
+    ends.sort();
+    assert_eq!(ends, [0, 8, 11, 12, 13, 120]);
 }
 
 // Zeros never drop: every sweep is over the whole diagonal. One value is never swept.
@@ -482,8 +561,11 @@ fn bad_readings() {
 fn refusals_have_numbers_and_texts() {
     use Refusal::*;
     let bad = Reading { station: 4, pass: 2, bad: 1 };
-    let all = [Empty, Large, Length, Stations, Passes, List, Count, Bound, bad, NotSettled, Value];
-    assert_eq!(all.map(|r| r.number()), [1, 2, 3, 4, 5, 11, 6, 7, 8, 12, 13]);
+    let all = [
+        Empty, Large, Length, Stations, Passes, List, Count, Bound, Profile, bad, NotSettled, Value,
+    ];
+    assert_eq!(all.map(|r| r.number()), [1, 2, 3, 4, 5, 11, 6, 7, 10, 8, 12, 13]);
+    assert_eq!(Profile.to_string(), "There is no such profile.");
     assert_eq!(bad.to_string(), "Station 4, pass 2: no usable reading.");
     let two = Reading { station: 4, pass: 2, bad: 2 };
     assert_eq!(two.to_string(), "Station 4, pass 2: no usable reading, and 1 more.");
@@ -491,7 +573,7 @@ fn refusals_have_numbers_and_texts() {
     assert!(texts.iter().all(|t| t.len() < 80 && t.ends_with('.')));
     texts.sort();
     texts.dedup();
-    assert_eq!(texts.len(), 11);
+    assert_eq!(texts.len(), 12);
 }
 
 #[test]

@@ -9,6 +9,9 @@ import java.util.Objects;
  * <p>Stations are the rows, passes are the columns. The split tells the roadway's own profile from the fan's drift: U
  * goes with the stations (row 4 of U is station 4), V with the passes.
  *
+ * <p>The surveyor picks the {@link Instrument}, and the library has the settings for it. Where others are wanted, each
+ * split is there with {@link Settings}, too.
+ *
  * <p>Every check of sizes, lengths, settings and readings is the proved library's own; these classes ask it and do no
  * arithmetic on readings. They have no state, so tables may be split on several threads at once.
  */
@@ -37,6 +40,24 @@ public final class Merotunki {
     }
 
     /**
+     * Splits a copy of the readings by instrument: as with {@link Instrument#settings}.
+     *
+     * @param readings station by station: that of station i in pass j stands at {@code i * passes + j}
+     * @param stations 1 to 48
+     * @param passes 1 to 48
+     * @param instrument the one that the readings were taken with
+     * @return the report and what the method leaves of the table
+     * @throws Refusal by 1, 2, 3 or 8
+     */
+    public static Split split(double[] readings, int stations, int passes, Instrument instrument) throws Refusal {
+        Objects.requireNonNull(readings, "readings");
+        Objects.requireNonNull(instrument, "instrument");
+        double[] table = readings.clone();
+        Report report = Native.split(table, stations, passes, instrument);
+        return new Split(report, table, stations, passes);
+    }
+
+    /**
      * The same split with U and V, which begin as the library's identity. Report and table are those of {@link #split}.
      *
      * @param readings station by station: that of station i in pass j stands at {@code i * passes + j}
@@ -54,6 +75,28 @@ public final class Merotunki {
         double[] u = new double[stations * stations];
         double[] v = new double[passes * passes];
         Report report = Native.splitFull(table, u, v, stations, passes, settings);
+        return new FullSplit(report, table, u, v, stations, passes);
+    }
+
+    /**
+     * The same split with U and V by instrument: as with {@link Instrument#settings}.
+     *
+     * @param readings station by station: that of station i in pass j stands at {@code i * passes + j}
+     * @param stations 1 to 48
+     * @param passes 1 to 48
+     * @param instrument the one that the readings were taken with
+     * @return the report, what the method leaves of the table, U and V
+     * @throws Refusal by 1, 2, 3 or 8
+     */
+    public static FullSplit splitFull(double[] readings, int stations, int passes, Instrument instrument)
+            throws Refusal {
+        Objects.requireNonNull(readings, "readings");
+        Objects.requireNonNull(instrument, "instrument");
+        double[] table = readings.clone();
+        Native.askSizes(table, stations, passes); // before U and V are made by them
+        double[] u = new double[stations * stations];
+        double[] v = new double[passes * passes];
+        Report report = Native.splitFull(table, u, v, stations, passes, instrument);
         return new FullSplit(report, table, u, v, stations, passes);
     }
 
@@ -78,6 +121,29 @@ public final class Merotunki {
         double[] v = new double[passes * passes];
         double[] values = new double[Math.min(stations, passes)];
         Report report = Native.splitInOrder(table, u, v, values, stations, passes, settings);
+        return new OrderedSplit(report, table, u, v, values, stations, passes);
+    }
+
+    /**
+     * The split in order by instrument: as with {@link Instrument#settings}.
+     *
+     * @param readings station by station: that of station i in pass j stands at {@code i * passes + j}
+     * @param stations 1 to 48
+     * @param passes 1 to 48
+     * @param instrument the one that the readings were taken with
+     * @return the report, what the method leaves of the table, the values, U and V
+     * @throws Refusal by 1, 2, 3 or 8; and by 12 or 13 after the run, with {@link Refusal#run}
+     */
+    public static OrderedSplit splitInOrder(double[] readings, int stations, int passes, Instrument instrument)
+            throws Refusal {
+        Objects.requireNonNull(readings, "readings");
+        Objects.requireNonNull(instrument, "instrument");
+        double[] table = readings.clone();
+        Native.askSizes(table, stations, passes); // before U, V and the list are made by them
+        double[] u = new double[stations * stations];
+        double[] v = new double[passes * passes];
+        double[] values = new double[Math.min(stations, passes)];
+        Report report = Native.splitInOrder(table, u, v, values, stations, passes, instrument);
         return new OrderedSplit(report, table, u, v, values, stations, passes);
     }
 

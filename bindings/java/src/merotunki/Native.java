@@ -33,6 +33,13 @@ final class Native {
         return outcome(answer);
     }
 
+    /** The same by instrument. */
+    static Report split(double[] table, int stations, int passes, Instrument i) throws Refusal {
+        long[] answer = new long[Answer.COUNT];
+        profileSvd(answer, table, stations, passes, i.number);
+        return outcome(answer);
+    }
+
     /** The same, with U and V filled from the library's identity. */
     static Report splitFull(double[] table, double[] u, double[] v, int stations, int passes, Settings s)
             throws Refusal {
@@ -41,11 +48,32 @@ final class Native {
         return outcome(answer);
     }
 
+    /** That by instrument. */
+    static Report splitFull(double[] table, double[] u, double[] v, int stations, int passes, Instrument i)
+            throws Refusal {
+        long[] answer = new long[Answer.COUNT];
+        profileFullSvd(answer, table, u, v, stations, passes, i.number);
+        return outcome(answer);
+    }
+
     /** The same in order, with the values in the list. Refused by 12 or 13, the refusal has what the run left. */
     static Report splitInOrder(double[] table, double[] u, double[] v, double[] values, int stations, int passes,
             Settings s) throws Refusal {
         long[] answer = new long[Answer.COUNT];
         orderedSvd(answer, table, u, v, values, stations, passes, s.limit, s.credit, s.tolerance, s.absolute, s.floor);
+        return ordered(answer, table, u, v, stations, passes);
+    }
+
+    /** That by instrument. */
+    static Report splitInOrder(double[] table, double[] u, double[] v, double[] values, int stations, int passes,
+            Instrument i) throws Refusal {
+        long[] answer = new long[Answer.COUNT];
+        profileOrderedSvd(answer, table, u, v, values, stations, passes, i.number);
+        return ordered(answer, table, u, v, stations, passes);
+    }
+
+    private static Report ordered(long[] answer, double[] table, double[] u, double[] v, int stations, int passes)
+            throws Refusal {
         int number = Answer.NUMBER.in(answer);
         if (number == Refusal.NOT_SETTLED || number == Refusal.VALUE) {
             throw new Refusal(number, new FullSplit(new Report(answer), table, u, v, stations, passes));
@@ -86,8 +114,19 @@ final class Native {
     private static native void orderedSvd(long[] answer, double[] table, double[] u, double[] v, double[] values,
             int stations, int passes, int limit, int credit, double tolerance, double absolute, double floor);
 
+    private static native void profileSvd(long[] answer, double[] table, int stations, int passes, int profile);
+
+    private static native void profileFullSvd(long[] answer, double[] table, double[] u, double[] v, int stations,
+            int passes, int profile);
+
+    private static native void profileOrderedSvd(long[] answer, double[] table, double[] u, double[] v,
+            double[] values, int stations, int passes, int profile);
+
     /** Writes limit, credit, tolerance, absolute and floor. */
     static native void defaults(double[] choice);
+
+    /** Writes the same of a profile and answers 0; zeros and 10 where there is no such profile. */
+    static native int profile(double[] choice, int profile);
 
     static native double squareRoot(double x);
 }

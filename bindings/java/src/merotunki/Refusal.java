@@ -8,6 +8,8 @@ package merotunki;
 public final class Refusal extends Exception {
     /** The number of a reading that is infinite or NaN. */
     public static final int READING = 8;
+    /** The number of a profile that there is not. */
+    public static final int PROFILE = 10;
     /** The number of a run that did not settle, so that its values are not final: it stopped or is quiet. */
     public static final int NOT_SETTLED = 12;
     /** The number of a run that settled with a value that is infinite or NaN. */
@@ -20,6 +22,8 @@ public final class Refusal extends Exception {
      * stations times passes; 6 a limit above 100,000, a credit above 1,000, or a negative one; 7 a tolerance, absolute
      * bound or floor that is not allowed; {@link #READING}, {@link #NOT_SETTLED}, {@link #VALUE}. There are 4, 5 and 11
      * too, for U, V and a list of values of a wrong length: these classes make all three and never give these numbers.
+     * Nor do they give {@link #PROFILE}, which calls by profile number have in the place of 6 and 7: every
+     * {@link Instrument} has a profile.
      */
     public final int number;
     /** For number 8 the station of the first reading that is infinite or NaN, counted from 0; else 0. */
@@ -76,6 +80,8 @@ public final class Refusal extends Exception {
                 return "The limit is above 100000 or the credit is above 1000, or one of them is negative.";
             case 7:
                 return "A bound is below zero or no number, or the floor is not above zero.";
+            case PROFILE:
+                return "There is no such profile.";
             case READING:
                 String more = bad > 1 ? ", and " + (bad - 1) + " more." : ".";
                 return "Station " + station + ", pass " + pass + ": no usable reading" + more;

@@ -3,7 +3,7 @@ package merotunki;
 
 /**
  * Settings that the library allows: there are no others. They start as {@link #DEFAULT}; each change is checked by the
- * library, by name, and gives new settings.
+ * library, by name, and gives new settings. An app whose surveyors pick an {@link Instrument} needs none.
  */
 public final class Settings {
     /** The library's own: limit 100, credit 50, tolerance 1e-10, absolute 1e-12, floor 1e-21. */
@@ -31,7 +31,20 @@ public final class Settings {
     private static Settings defaults() {
         double[] choice = new double[5];
         Native.defaults(choice);
+        return of(choice);
+    }
+
+    private static Settings of(double[] choice) {
         return new Settings((int) choice[0], (int) choice[1], choice[2], choice[3], choice[4]);
+    }
+
+    /** The library's own for a profile that there is. */
+    static Settings ofProfile(int profile) {
+        double[] choice = new double[5];
+        if (Native.profile(choice, profile) != 0) {
+            throw new IllegalArgumentException("The library has no profile " + profile + ".");
+        }
+        return of(choice);
     }
 
     // The library checks the settings when it splits, so it is given a table of one zero to split.
