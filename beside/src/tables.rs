@@ -96,6 +96,7 @@ pub const FIRST_PASS: Kind = (
     "survey, noise 3 %, the first pass all 0",
     |draw, rows, cols| pass_of_zeros(draw, rows, cols, 0),
 );
+pub const CALM: Kind = ("all readings 0", |_, rows, cols| vec![0.0; rows * cols]);
 pub const TWO_STATIONS: Kind = (
     "all readings 0, of two stations alone (2 x passes)",
     |_, _, cols| vec![0.0; 2 * cols],
@@ -156,7 +157,7 @@ pub const KINDS: [Kind; 19] = [
     ("all readings equal", |draw, rows, cols| {
         vec![(1.0 + 300.0 * draw.part()).round() / 100.0; rows * cols]
     }),
-    ("all readings 0", |_, rows, cols| vec![0.0; rows * cols]),
+    CALM,
     TWO_STATIONS,
     (
         "survey, noise 3 %, read to 0.01, all but one station 0",

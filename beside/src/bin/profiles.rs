@@ -1,24 +1,24 @@
 //! profiles [DRAWS]: what each of the four profiles makes of tables like a survey's: DRAWS (200 where none is given)
-//! drawn tables of each kind and shape, the same ones that `rates` draws. Prints seven tables for docs/GUIDE.md, each
-//! with a column for each profile. For the shapes with few passes: how many of a hundred settled, stopped and were
-//! quiet; passes and rotations of those that settled, by kind, and for surveys with noise by shape; the same of those
-//! that did not settle; of those that settled how far the values are from the reference's (`reference.rs`), and by how
-//! much the strongest part misses the readings. For square tables: how many stopped, and behind a `q` how many were
-//! quiet. A number in brackets is the largest, the one before it the median. With 200 draws it takes about 6 seconds on
-//! one core.
+//! drawn tables of each kind and shape, the same ones that `rates` draws. Prints eight tables for docs/GUIDE.md, each
+//! with a column for each profile: how many of a hundred settled, stopped and were quiet, of the shapes with few passes
+//! by kind, and of surveys in square shapes; passes and rotations of those that settled, by kind, and of surveys by
+//! shape; the same of those that did not settle; for how many of these the readings confirm the strongest part; and of
+//! those that settled how far the values are from the reference's (`reference.rs`), and by how much the strongest part
+//! misses the readings. A number in brackets is the largest, the one before it the median. With 200 draws it takes about
+//! 15 seconds on one core.
 
+use beside::Report;
 use beside::by_profile::{Run, of_kind};
 use beside::profiles::PROFILES;
 use beside::tables::{
-    FEW_PASSES, KINDS, Kind, NOISE_3, NOISE_HALF, NOISE_MILLIONTH, NOISE_TENTH, Shape,
-    TWO_STATIONS, drawn,
+    CALM, FEW_PASSES, KINDS, Kind, NOISE_3, NOISE_HALF, NOISE_MILLIONTH, NOISE_TENTH, Shape,
+    TWO_STATIONS,
 };
-use beside::{Report, run};
 use std::cmp::Ordering;
 
 const SURVEYS: [Kind; 3] = [NOISE_3, NOISE_HALF, NOISE_TENTH];
 const NOISY: [Kind; 4] = [NOISE_3, NOISE_HALF, NOISE_TENTH, NOISE_MILLIONTH];
-const LARGE: [Shape; 3] = [(16, 16), (30, 30), (48, 48)];
+const SQUARE: [Shape; 3] = [(16, 16), (30, 30), (48, 48)];
 
 /// What is drawn of a kind and shape, with its four runs for each table.
 struct Lot {
@@ -43,26 +43,26 @@ fn told((rows, cols): Shape) -> String {
     format!("{rows} x {cols}")
 }
 
-fn print_heads(first: &str) {
+fn any(_: &Run) -> bool {
+    true
+}
+
+fn unsettled(run: &Run) -> bool {
+    !run.settled()
+}
+
+/// A line for each row, a cell for each profile, made of those of its runs that are asked for.
+fn print_table(first: &str, rows: &[Row], asked: fn(&Run) -> bool, cell: fn(&[&Run]) -> String) {
     let heads = PROFILES.map(|(name, _)| name);
     println!("| {first} | {} |", heads.join(" | "));
     println!("|---|{}", "---|".repeat(heads.len()));
-}
-
-type Cell = fn(&[&Run]) -> String;
-
-/// A line for each row, a cell for each profile: of all its runs, or of those that settled, or of the others.
-fn print_table(first: &str, rows: &[Row], settled: Option<bool>, cell: Cell) {
-    print_heads(first);
     for (name, runs) in rows {
         let cells = [0, 1, 2, 3].map(|profile| {
             let here = runs.iter().map(|four| &four[profile]);
-            let asked: Vec<&Run> = here
-                .filter(|run| settled.is_none_or(|settled| run.settled() == settled))
-                .collect();
-            match asked.len() {
+            let here: Vec<&Run> = here.filter(|run| asked(run)).collect();
+            match here.len() {
                 0 => "-".to_string(),
-                _ => cell(&asked),
+                _ => cell(&here),
             }
         });
         println!("| {name} | {} |", cells.join(" | "));
@@ -115,69 +115,70 @@ fn miss(runs: &[&Run]) -> String {
     format!("{misses}; {found} of {}", runs.len())
 }
 
-fn print_large(draws: usize) {
-    print_heads("tables");
-    for shape in LARGE {
-        for (name, table) in SURVEYS {
-            let cells = PROFILES.map(|(_, settings)| {
-                let mut ended = [0; 4];
-                for mut matrix in drawn(table, shape, draws) {
-                    let report = run(shape.0, shape.1, &mut matrix, None, &settings);
-                    ended[report.word as usize] += 1;
-                }
-                let stopped = ended[Report::STOPPED as usize];
-                match ended[Report::QUIET as usize] {
-                    0 => format!("{stopped} of {draws}"),
-                    quiet => format!("{stopped} of {draws}, q {quiet} of {draws}"),
-                }
-            });
-            println!("| {}, {name} | {} |", told(shape), cells.join(" | "));
-        }
-    }
+/// For how many of those that stopped the readings confirm the strongest part, and of those that are quiet.
+fn confirmed(runs: &[&Run]) -> String {
+    let of_word = |word: u64| {
+        let here = runs.iter().filter(|run| run.report.word == word);
+        let well = here.clone().filter(|run| run.strongest.confirmed());
+        format!("{} of {}", well.count(), here.count())
+    };
+    [Report::STOPPED, Report::QUIET].map(of_word).join("; ")
+}
+
+/// What is drawn of these kinds in these shapes.
+fn lots(kinds: &[Kind], shapes: &[Shape], draws: usize) -> Vec<Lot> {
+    let lot = |kind: Kind, shape: Shape| Lot {
+        kind: kind.0,
+        shape,
+        runs: of_kind(kind, shape, draws).collect(),
+    };
+    let of_shapes = |&kind: &Kind| shapes.iter().map(move |&shape| lot(kind, shape));
+    kinds.iter().flat_map(of_shapes).collect()
 }
 
 fn main() {
     let draws = std::env::args()
         .nth(1)
         .map_or(200, |word| word.parse().expect("a number"));
-    let lots: Vec<Lot> = KINDS
-        .into_iter()
-        .flat_map(|kind| FEW_PASSES.map(|shape| (kind, shape)))
-        .map(|(kind, shape)| Lot {
-            kind: kind.0,
-            shape,
-            runs: of_kind(kind, shape, draws).collect(),
+    let few = lots(&KINDS, &FEW_PASSES, draws);
+    let square = lots(&SURVEYS, &SQUARE, draws);
+    let by_kind = |(name, _): Kind| row(name, &few, |lot| lot.kind == name);
+    let by_shape = |belongs: fn(&Lot) -> bool| {
+        FEW_PASSES.map(|shape| row(told(shape), &few, |lot| lot.shape == shape && belongs(lot)))
+    };
+
+    let kinds = KINDS.map(by_kind);
+    let first = format!("tables, {} of all these shapes", draws * FEW_PASSES.len());
+    print_table(&first, &kinds, any, words);
+    let squares: Vec<Row> = square
+        .chunks(1)
+        .map(|one| {
+            row(
+                format!("{}, {}", told(one[0].shape), one[0].kind),
+                one,
+                |_| true,
+            )
         })
         .collect();
-    let all = draws * FEW_PASSES.len();
-    let by_kind = |(name, _): Kind| row(name, &lots, |lot| lot.kind == name);
-    let kinds = KINDS.map(by_kind);
-    let first = format!("tables, {all} of all these shapes");
-    print_table(&first, &kinds, None, words);
-    print_table(&first, &kinds, Some(true), work);
+    print_table("tables", &squares, any, words);
 
-    let surveys = FEW_PASSES.map(|shape| {
-        row(told(shape), &lots, |lot| {
-            lot.shape == shape && one_of(&SURVEYS, lot)
-        })
-    });
-    let first = format!(
-        "surveys, noise 0.1 % to 3 %, {} of a shape",
-        draws * SURVEYS.len()
-    );
-    print_table(&first, &surveys, Some(true), work);
-    let full = FEW_PASSES.map(|shape| {
-        row(told(shape), &lots, |lot| {
-            lot.shape == shape && lot.kind != TWO_STATIONS.0
-        })
-    });
-    let first = format!("tables of {} kinds", KINDS.len() - 1);
-    print_table(&first, &full, Some(false), work);
+    print_table("tables", &kinds, Run::settled, work);
+    let surveys = by_shape(|lot| one_of(&SURVEYS, lot));
+    print_table("surveys", &surveys, Run::settled, work);
+    let full = by_shape(|lot| lot.kind != TWO_STATIONS.0);
+    print_table("tables", &full, unsettled, work);
+    let air = [
+        row("few passes", &few, |lot| {
+            !one_of(&[CALM, TWO_STATIONS], lot)
+        }),
+        row("square", &square, |_| true),
+    ];
+    print_table("tables with air", &air, unsettled, confirmed);
 
     let mut exact = NOISY.map(by_kind).to_vec();
-    exact.push(row("these together", &lots, |lot| one_of(&NOISY, lot)));
-    exact.push(row("all kinds together", &lots, |_| true));
-    print_table("tables that settled", &exact, Some(true), off);
-    print_table("tables that settled", &exact, Some(true), miss);
-    print_large(draws);
+    exact.push(row("these together", &few, |lot| one_of(&NOISY, lot)));
+    exact.push(row("all kinds together", &few, |_| true));
+    exact.push(row("surveys in square shapes", &square, |_| true));
+    print_table("tables", &exact, Run::settled, off);
+    print_table("tables", &exact, Run::settled, miss);
 }
