@@ -126,7 +126,8 @@ fn middle<T: Copy + Ord>(mut numbers: Vec<T>) -> (T, T) {
     (numbers[numbers.len() / 2], *numbers.last().expect("one"))
 }
 
-/// The program's tables by kind, counted again from plain calls; and it prints the same twice.
+/// The program's tables by kind and its table of tables that did not settle, counted again from plain calls; and it
+/// prints the same twice.
 #[test]
 fn the_program_prints_what_was_counted() {
     let text = printed("2");
@@ -137,19 +138,21 @@ fn the_program_prints_what_was_counted() {
         .map(|table| table.lines().collect())
         .collect();
     let sizes: Vec<usize> = tables.iter().map(|table| table.len() - 2).collect();
-    assert_eq!(sizes, [19, 9, 19, 7, 7, 2, 7, 7]);
+    assert_eq!(sizes, [19, 9, 4, 19, 7, 7, 2, 7, 7]);
     for table in &tables {
         assert!(table[0].ends_with("| vane | hot wire | ultrasonic | smoke tube |"));
     }
+    let mut settled_under = [const { Vec::new() }; 4];
     for (at, (name, table)) in KINDS.into_iter().enumerate() {
         let (mut words, mut work) = (Vec::new(), Vec::new());
-        for (_, settings) in PROFILES {
+        for ((_, settings), settled_under) in PROFILES.iter().zip(&mut settled_under) {
             let (mut ended, mut passes, mut rotations) = ([0.0; 4], Vec::new(), Vec::new());
             for shape in FEW_PASSES {
                 for mut matrix in drawn(table, shape, 2) {
                     let rows = matrix.len() / shape.1;
-                    let report = run(rows, shape.1, &mut matrix, None, &settings);
+                    let report = run(rows, shape.1, &mut matrix, None, settings);
                     ended[report.word as usize] += 1.0;
+                    settled_under.push(report.word == Report::SETTLED);
                     if report.word == Report::SETTLED {
                         passes.push(report.passes);
                         rotations.push(report.rotations);
@@ -171,8 +174,18 @@ fn the_program_prints_what_was_counted() {
             format!("| {name} | {} |", words.join(" | "))
         );
         assert_eq!(
-            tables[2][at + 2],
+            tables[3][at + 2],
             format!("| {name} | {} |", work.join(" | "))
         );
+    }
+    for (one, (name, _)) in PROFILES.iter().enumerate() {
+        let left: Vec<usize> = (0..settled_under[one].len())
+            .filter(|&at| !settled_under[one][at])
+            .collect();
+        let many = |other: usize| left.iter().filter(|&&at| settled_under[other][at]).count();
+        let mut cells = [0, 1, 2, 3].map(|other| many(other).to_string());
+        cells[one] = "-".to_string();
+        let line = format!("| {name}, {} | {} |", left.len(), cells.join(" | "));
+        assert_eq!(tables[2][one + 2], line);
     }
 }

@@ -24,7 +24,7 @@ fn transposed(rows: usize, cols: usize, table: &[f64]) -> Vec<f64> {
 
 /// The sign of entry (i, j) in a table of 1 and -1 whose columns are square to each other (Sylvester).
 fn sign(i: usize, j: usize) -> f64 {
-    if (i & j).count_ones() % 2 == 0 {
+    if (i & j).count_ones().is_multiple_of(2) {
         1.0
     } else {
         -1.0

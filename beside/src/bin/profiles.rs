@@ -1,7 +1,7 @@
 //! profiles [DRAWS]: what each of the four profiles makes of tables like a survey's: DRAWS (200 where none is given)
-//! drawn tables of each kind and shape, the same ones that `rates` draws. Prints eight tables for docs/GUIDE.md, each
+//! drawn tables of each kind and shape, the same ones that `rates` draws. Prints nine tables for docs/GUIDE.md, each
 //! with a column for each profile: how many of a hundred settled, stopped and were quiet, of the shapes with few passes
-//! by kind, and of surveys in square shapes; passes and rotations of those that settled, by kind, and of surveys by
+//! by kind, and of surveys in square shapes; how many that did not settle under one settled under another; passes and rotations of those that settled, by kind, and of surveys by
 //! shape; the same of those that did not settle; for how many of these the readings confirm the strongest part; and of
 //! those that settled how far the values are from the reference's (`reference.rs`), and by how much the strongest part
 //! misses the readings. A number in brackets is the largest, the one before it the median. With 200 draws it takes about
@@ -51,11 +51,15 @@ fn unsettled(run: &Run) -> bool {
     !run.settled()
 }
 
-/// A line for each row, a cell for each profile, made of those of its runs that are asked for.
-fn print_table(first: &str, rows: &[Row], asked: fn(&Run) -> bool, cell: fn(&[&Run]) -> String) {
+fn print_heads(first: &str) {
     let heads = PROFILES.map(|(name, _)| name);
     println!("| {first} | {} |", heads.join(" | "));
     println!("|---|{}", "---|".repeat(heads.len()));
+}
+
+/// A line for each row, a cell for each profile, made of those of its runs that are asked for.
+fn print_table(first: &str, rows: &[Row], asked: fn(&Run) -> bool, cell: fn(&[&Run]) -> String) {
+    print_heads(first);
     for (name, runs) in rows {
         let cells = [0, 1, 2, 3].map(|profile| {
             let here = runs.iter().map(|four| &four[profile]);
@@ -66,6 +70,24 @@ fn print_table(first: &str, rows: &[Row], asked: fn(&Run) -> bool, cell: fn(&[&R
             }
         });
         println!("| {name} | {} |", cells.join(" | "));
+    }
+    println!();
+}
+
+/// How many tables that did not settle under one profile settled under each.
+fn print_others(lots: &[Lot]) {
+    print_heads("tables that did not settle");
+    for (one, (name, _)) in PROFILES.iter().enumerate() {
+        let tables = lots.iter().flat_map(|lot| &lot.runs);
+        let left: Vec<&[Run; 4]> = tables.filter(|four| !four[one].settled()).collect();
+        let cells = [0, 1, 2, 3].map(|other| match other == one {
+            true => "-".to_string(),
+            false => {
+                let settled = left.iter().filter(|four| four[other].settled());
+                settled.count().to_string()
+            }
+        });
+        println!("| {name}, {} | {} |", left.len(), cells.join(" | "));
     }
     println!();
 }
@@ -161,6 +183,7 @@ fn main() {
         })
         .collect();
     print_table("tables", &squares, any, words);
+    print_others(&few);
 
     print_table("tables", &kinds, Run::settled, work);
     let surveys = by_shape(|lot| one_of(&SURVEYS, lot));
