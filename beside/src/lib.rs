@@ -5,17 +5,21 @@
 /// cannot be built without the proved library. What the words say is computed here from the original.
 #[path = "../../bindings/rust/src/answer.rs"]
 pub mod answer;
+pub mod by_profile;
 pub mod cases;
 pub mod kinds;
 pub mod limits;
 pub mod order;
 pub mod pairs;
+pub mod profiles;
 pub mod quiet;
 pub mod readings;
 mod record;
+pub mod reference;
 pub mod refusals;
 pub mod rotations;
 pub mod run;
+pub mod strongest;
 pub mod survey;
 pub mod tables;
 pub mod text;

@@ -98,7 +98,7 @@ pub fn unwritten(length: usize) -> Vec<f64> {
 }
 
 /// The identity of this size, row by row.
-pub(crate) fn identity(size: usize) -> Vec<f64> {
+pub fn identity(size: usize) -> Vec<f64> {
     let entry = |at: usize| if at % (size + 1) == 0 { 1.0 } else { 0.0 };
     (0..size * size).map(entry).collect()
 }

@@ -1,5 +1,5 @@
-//! Drawn tables like a survey's, by kind and shape, always the same ones: `rates` counts how they end, and the
-//! `battery` of speed times them.
+//! Drawn tables like a survey's, by kind and shape, always the same ones: `rates` counts how they end,
+//! `profiles` does so under each profile, and the `battery` of speed times them.
 
 /// Splitmix64, as a number from 0 up to, but without, 1.
 pub struct Draw(pub u64);
@@ -64,6 +64,18 @@ fn all_but_one(draw: &mut Draw, rows: usize, cols: usize, station: bool) -> Vec<
 }
 
 pub type Shape = (usize, usize);
+
+/// As surveys are: more stations than passes.
+pub const FEW_PASSES: [Shape; 7] = [
+    (8, 5),
+    (12, 6),
+    (20, 5),
+    (20, 10),
+    (30, 4),
+    (48, 3),
+    (48, 6),
+];
+
 /// The readings of a table with so many columns, and mostly so many rows.
 pub type Table = fn(&mut Draw, usize, usize) -> Vec<f64>;
 pub type Kind = (&'static str, Table);
@@ -77,9 +89,17 @@ pub const NOISE_HALF: Kind = ("survey, noise 0.5 %, read to 0.01", |draw, rows, 
 pub const NOISE_TENTH: Kind = ("survey, noise 0.1 %, not rounded", |draw, rows, cols| {
     survey(draw, rows, cols, 1e-3, false)
 });
+pub const NOISE_MILLIONTH: Kind = ("survey, noise 1e-6, not rounded", |draw, rows, cols| {
+    survey(draw, rows, cols, 1e-6, false)
+});
 pub const FIRST_PASS: Kind = (
     "survey, noise 3 %, the first pass all 0",
     |draw, rows, cols| pass_of_zeros(draw, rows, cols, 0),
+);
+pub const CALM: Kind = ("all readings 0", |_, rows, cols| vec![0.0; rows * cols]);
+pub const TWO_STATIONS: Kind = (
+    "all readings 0, of two stations alone (2 x passes)",
+    |_, _, cols| vec![0.0; 2 * cols],
 );
 
 pub const KINDS: [Kind; 19] = [
@@ -92,9 +112,7 @@ pub const KINDS: [Kind; 19] = [
         survey(draw, rows, cols, 0.0, true)
     }),
     NOISE_TENTH,
-    ("survey, noise 1e-6, not rounded", |draw, rows, cols| {
-        survey(draw, rows, cols, 1e-6, false)
-    }),
+    NOISE_MILLIONTH,
     (
         "survey, no noise, not rounded (rank 1)",
         |draw, rows, cols| survey(draw, rows, cols, 0.0, false),
@@ -139,11 +157,8 @@ pub const KINDS: [Kind; 19] = [
     ("all readings equal", |draw, rows, cols| {
         vec![(1.0 + 300.0 * draw.part()).round() / 100.0; rows * cols]
     }),
-    ("all readings 0", |_, rows, cols| vec![0.0; rows * cols]),
-    (
-        "all readings 0, of two stations alone (2 x passes)",
-        |_, _, cols| vec![0.0; 2 * cols],
-    ),
+    CALM,
+    TWO_STATIONS,
     (
         "survey, noise 3 %, read to 0.01, all but one station 0",
         |draw, rows, cols| all_but_one(draw, rows, cols, true),

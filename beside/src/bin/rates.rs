@@ -6,19 +6,13 @@
 //! confirm the strongest part; and how many stop at greater limits, up to the greatest that is allowed, and behind a `q`
 //! how many are quiet. With 200 draws it takes about 50 seconds on one core, nearly all of it for the limit of 100,000.
 
-use beside::tables::{FIRST_PASS, KINDS, Kind, NOISE_3, NOISE_HALF, NOISE_TENTH, Shape, drawn};
+use beside::run::identity;
+use beside::strongest::Strongest;
+use beside::tables::{
+    FEW_PASSES, FIRST_PASS, KINDS, Kind, NOISE_3, NOISE_HALF, NOISE_TENTH, Shape, drawn,
+};
 use beside::{Report, Settings, run};
 
-/// As surveys are: more stations than passes.
-const FEW_PASSES: [Shape; 7] = [
-    (8, 5),
-    (12, 6),
-    (20, 5),
-    (20, 10),
-    (30, 4),
-    (48, 3),
-    (48, 6),
-];
 const OTHERS: [Shape; 6] = [(4, 4), (16, 16), (30, 30), (48, 48), (5, 8), (10, 20)];
 const LIMITS: [(&str, usize); 4] = [
     ("100", 100),
@@ -26,37 +20,6 @@ const LIMITS: [(&str, usize); 4] = [
     ("10,000", 10_000),
     ("100,000", 100_000),
 ];
-
-fn identity(size: usize) -> Vec<f64> {
-    (0..size * size)
-        .map(|at| f64::from(at % (size + 1) == 0))
-        .collect()
-}
-
-fn length(numbers: impl Iterator<Item = f64>) -> f64 {
-    numbers.map(|x| x * x).sum::<f64>().sqrt()
-}
-
-/// Whether the readings T confirm the strongest part (s, u, v) of the split: T v = s u and T' u = s v, and all that it
-/// leaves over together is smaller than s, so that no other part is stronger.
-fn confirmed(
-    readings: &[f64],
-    matrix: &[f64],
-    (us, vs): (&[f64], &[f64]),
-    (rows, cols): Shape,
-) -> bool {
-    let value = |k: usize| matrix[k * cols + k];
-    let larger = |a: &usize, b: &usize| value(*a).abs().total_cmp(&value(*b).abs());
-    let k = (0..rows.min(cols)).max_by(larger).expect("a value");
-    let s = value(k);
-    let (u, v) = (|i: usize| us[i * rows + k], |j: usize| vs[j * cols + k]);
-    let at = |i: usize, j: usize| readings[i * cols + j];
-    let by_station = |i| (0..cols).map(|j| at(i, j) * v(j)).sum::<f64>() - s * u(i);
-    let by_pass = |j| (0..rows).map(|i| at(i, j) * u(i)).sum::<f64>() - s * v(j);
-    let miss = length((0..rows).map(by_station).chain((0..cols).map(by_pass)));
-    let left = length((0..rows * cols).map(|at| readings[at] - s * u(at / cols) * v(at % cols)));
-    miss <= 1e-10 * s.abs() && left < s.abs()
-}
 
 fn print_heads(first: &str, heads: &[String]) {
     println!("| {first} | {} |", heads.join(" | "));
@@ -111,8 +74,8 @@ fn print_shapes(shapes: &[Shape], draws: usize, sums: &mut Sums) {
                 if report.word == Report::SETTLED {
                     settled.push(report.passes);
                 } else {
-                    let well = confirmed(&readings, &matrix, (&u, &v), (rows, cols));
-                    sum.well[word] += usize::from(well);
+                    let strongest = Strongest::of(&readings, &matrix, (&u, &v), (rows, cols));
+                    sum.well[word] += usize::from(strongest.confirmed());
                 }
             }
             settled.sort_unstable();
