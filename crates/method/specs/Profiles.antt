@@ -1,4 +1,4 @@
--- One profile per instrument (rule 9.5): the table of profiles, the settings that each stands for in a format, what a
+-- One profile per instrument (rule 9.6): the table of profiles, the settings that each stands for in a format, what a
 -- profile's number picks, and the outcome of the calls by that number, for every input. Definitions only.
 pub mod Table
 pub mod Nearest
