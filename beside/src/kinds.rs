@@ -509,8 +509,37 @@ fn values(draw: &mut Draw, length: usize, unfit: bool) -> Vec<f64> {
     list
 }
 
-/// Run `number` of the seed, and the kind of its table.
+/// The number of a profile: in seven of eight one of those that there are, of the unfit runs in half, else one
+/// that there is not, among them such as would be one of the four if they were cut to fewer bits.
+fn profile(draw: &mut Draw, unfit: bool) -> usize {
+    let good = 1 + draw.below(4) as usize;
+    if draw.below(8) < if unfit { 4 } else { 7 } {
+        return good;
+    }
+    let cut = 1 << of(draw, &[8, 16, 31, 32, 32, 48, 63]);
+    let any = (draw.bits() as usize).max(5);
+    of(
+        draw,
+        &[0, 5, 6, usize::MAX, cut, cut + good, cut + good, any],
+    )
+}
+
+/// Run `number` of the seed, and the kind of its table. One run in four is made by a profile's number, of
+/// the unfit ones every other; all else of it is as `with_settings` draws it.
 pub fn drawn(seed: u64, number: u64, sizes: Sizes) -> (Run, usize) {
+    let (mut run, kind) = with_settings(seed, number, sizes);
+    // A draw of its own: those of the run stay as they are.
+    let mut mixed = Draw(!seed ^ number.wrapping_mul(0xE703_7ED1_A0B4_28DB));
+    let draw = &mut Draw(mixed.bits());
+    let unfit = run.refusal(Call::Ordered).is_some();
+    if draw.below(if unfit { 2 } else { 4 }) == 0 {
+        run.profile = Some(profile(draw, unfit));
+    }
+    (run, kind)
+}
+
+/// Run `number` of the seed with settings, and the kind of its table.
+pub fn with_settings(seed: u64, number: u64, sizes: Sizes) -> (Run, usize) {
     let mut mixed = Draw(seed ^ number.wrapping_mul(0xD1B5_4A32_D192_ED03));
     let draw = &mut Draw(mixed.bits());
     let (rows, cols) = shape(draw, sizes);
@@ -520,6 +549,7 @@ pub fn drawn(seed: u64, number: u64, sizes: Sizes) -> (Run, usize) {
         rows,
         cols,
         settings,
+        profile: None,
         call: match draw.below(8) {
             0 => Call::Plain,
             _ => Call::Ordered,

@@ -5,6 +5,7 @@
 /// cannot be built without the proved library. What the words say is computed here from the original.
 #[path = "../../bindings/rust/src/answer.rs"]
 pub mod answer;
+pub mod by_number;
 pub mod by_profile;
 pub mod cases;
 pub mod kinds;

@@ -76,6 +76,7 @@ fn run_of(parts: &[&str]) -> Run {
             tolerance: number(&settings[1]),
             ..Settings::DEFAULT
         },
+        profile: None,
         call: match long.len() {
             3 => Call::Accumulating,
             _ => Call::Plain,

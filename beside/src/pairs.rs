@@ -61,7 +61,7 @@ pub struct Pair {
 fn fit(seed: u64, number: u64, sizes: Sizes) -> (Run, usize) {
     let mut seeds = Draw(!seed);
     loop {
-        let (run, table) = kinds::drawn(seeds.bits(), number, sizes);
+        let (run, table) = kinds::with_settings(seeds.bits(), number, sizes);
         if run.refusal(Call::Accumulating).is_none() {
             return (run, table);
         }

@@ -70,13 +70,14 @@ impl Corner {
         if range < 2 {
             return None;
         }
+        let limit = run.chosen()?.limit;
         let of = |such: &dyn Fn(usize, usize) -> bool| entries(cols, &reply.matrix, such);
         let card = rows.min(cols);
         let within = |i: usize, j: usize| i.max(j) < range;
         let beside = |i: usize, j: usize| coupled(rows, cols, (i, j));
         Some(Corner {
             word,
-            limit: run.settings.limit,
+            limit,
             range,
             card,
             lower: cols > rows,

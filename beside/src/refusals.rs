@@ -68,6 +68,54 @@ fn refused(call: Call) -> Vec<(u64, Run)> {
     runs
 }
 
+/// Runs by a profile's number: each other refusal together with 10, where there is no such profile, and by
+/// itself, where there is one; three at once; and 10 before a run that has not settled or has no finite
+/// values.
+pub fn by_profile() -> Vec<(Call, u64, Run)> {
+    let mut none = NO_PROFILE.into_iter().cycle();
+    let mut one = (1..=4).cycle();
+    let mut runs = Vec::new();
+    let mut add = |call: Call, number: u64, faults: &[Fault]| {
+        let run = with(call, faults);
+        let told = if number == 8 { 10 } else { number };
+        for (told, profile) in [(told, none.next()), (number, one.next())] {
+            let run = run.clone();
+            runs.push((call, told, Run { profile, ..run }));
+        }
+    };
+    for call in [Call::Plain, Call::Accumulating, Call::Ordered] {
+        let own = |number: u64| (call == Call::Ordered) == (number == 11);
+        for (number, fault) in PAIRED {
+            if call.has(number) && own(number) && ![6, 7].contains(&number) {
+                add(call, number, &[fault]);
+            }
+        }
+    }
+    add(Call::Accumulating, 3, &[SHORT, BAD_READING]);
+    add(Call::Ordered, 11, &[SHORT_LIST, BAD_READING]);
+    for later in [12, 13] {
+        let such = |(number, _): &(u64, Run)| *number == later;
+        let (_, run) = after_the_run().into_iter().find(such).expect("one");
+        let profile = none.next();
+        runs.push((Call::Ordered, 10, Run { profile, ..run }));
+    }
+    runs
+}
+
+/// Numbers of no profile. All but the first three are that of one in their lower bits.
+pub const NO_PROFILE: [usize; 10] = [
+    0,
+    5,
+    usize::MAX,
+    (1 << 32) + 2,
+    (1 << 32) + 1,
+    (1 << 8) + 3,
+    (1 << 16) + 4,
+    (1 << 31) + 1,
+    (1 << 48) + 3,
+    (1 << 63) + 4,
+];
+
 /// Lists of the lengths that the sizes ask for.
 fn fitted(run: &mut Run) {
     let list = |length: usize| (0..length).map(|at| at as f64 - 2.5).collect::<Vec<f64>>();
@@ -83,6 +131,7 @@ fn with(call: Call, faults: &[Fault]) -> Run {
         rows: 3,
         cols: 2,
         settings: Settings::DEFAULT,
+        profile: None,
         call: if call.keeps() { Call::Ordered } else { call },
         matrix: Vec::new(),
         start: Start::Identity,

@@ -1,6 +1,7 @@
 //! One call as an app could make it, fit or not, and the reply that it must get: refused by the rules'
 //! table, or else what the original does, for the ordered call with the values in order.
 
+use crate::profiles::profile;
 use crate::readings::{Bad, bad};
 use crate::text::{hex, hexes};
 use crate::{Report, Settings, Walked, order, walked};
@@ -43,12 +44,15 @@ pub enum Start {
     Given(Vec<f64>, Vec<f64>),
 }
 
-/// Any sizes, any settings, and lists of any length.
+/// Any sizes, any settings or any profile's number, and lists of any length.
 #[derive(Clone, Debug)]
 pub struct Run {
     pub rows: usize,
     pub cols: usize,
+    /// Not looked at where the run is made by a profile's number.
     pub settings: Settings,
+    /// The number by which the run is made in place of settings.
+    pub profile: Option<usize>,
     /// The call that is lent the most; those before it are made as well.
     pub call: Call,
     pub matrix: Vec<f64>,
@@ -103,12 +107,39 @@ pub fn identity(size: usize) -> Vec<f64> {
     (0..size * size).map(entry).collect()
 }
 
+/// The number that refuses these settings, if one does.
+fn unfit(settings: &Settings) -> Option<u64> {
+    let &Settings {
+        limit,
+        credit,
+        tolerance,
+        absolute,
+        floor,
+    } = settings;
+    if limit > 100_000 || credit > 1_000 {
+        return Some(6);
+    }
+    let bound = |value: f64| value.is_finite() && value >= 0.0;
+    if !bound(tolerance) || !bound(absolute) || !floor.is_finite() || floor <= 0.0 {
+        return Some(7);
+    }
+    None
+}
+
 impl Run {
     /// U and V as the accumulating call is lent them.
     pub fn factors(&self) -> (Vec<f64>, Vec<f64>) {
         match &self.start {
             Start::Identity => (identity(self.rows), identity(self.cols)),
             Start::Given(u, v) => (u.clone(), v.clone()),
+        }
+    }
+
+    /// The settings of the run, its own or the profile's; none where there is no such profile.
+    pub fn chosen(&self) -> Option<Settings> {
+        match self.profile {
+            None => Some(self.settings),
+            Some(number) => profile(number).map(|(_, settings)| settings),
         }
     }
 
@@ -120,13 +151,6 @@ impl Run {
                 ..Report::default()
             })
         };
-        let Settings {
-            limit,
-            credit,
-            tolerance,
-            absolute,
-            floor,
-        } = self.settings;
         let (rows, cols) = (self.rows, self.cols);
         if rows == 0 || cols == 0 {
             return refused(1);
@@ -148,12 +172,12 @@ impl Run {
         if call == Call::Ordered && self.values.len() != rows.min(cols) {
             return refused(11);
         }
-        if limit > 100_000 || credit > 1_000 {
-            return refused(6);
-        }
-        let bound = |value: f64| value.is_finite() && value >= 0.0;
-        if !bound(tolerance) || !bound(absolute) || !floor.is_finite() || floor <= 0.0 {
-            return refused(7);
+        let unfit = match self.profile {
+            Some(number) => profile(number).is_none().then_some(10),
+            None => unfit(&self.settings),
+        };
+        if let Some(number) = unfit {
+            return refused(number);
         }
         let Bad { row, column, many } = bad(cols, &self.matrix)?;
         Some(Report {
@@ -201,11 +225,11 @@ impl Run {
         if let Some(refused) = self.refused(call) {
             return (refused, Walked::default());
         }
+        let settings = self.chosen().expect("a profile that there is");
         let mut reply = self.lent(call);
         let uv = call.keeps().then_some((&mut reply.u[..], &mut reply.v[..]));
         let record;
-        (reply.report, record) =
-            walked(self.rows, self.cols, &mut reply.matrix, uv, &self.settings);
+        (reply.report, record) = walked(self.rows, self.cols, &mut reply.matrix, uv, &settings);
         (reply, record)
     }
 
@@ -223,25 +247,30 @@ impl Run {
         })
     }
 
-    /// The run in words: sizes and settings, then the table as survey text where it is one, then U
+    /// The run in words: sizes and settings or profile, then the table as survey text where it is one, then U
     /// and V, then the list of values.
     pub fn told(&self) -> String {
-        let Settings {
-            limit,
-            credit,
-            tolerance,
-            absolute,
-            floor,
-        } = self.settings;
-        let mut text = format!(
-            "{} call, {} x {}, limit {limit}, credit {credit}, tolerance {tolerance:e} ({}), absolute {absolute:e} ({}), floor {floor:e} ({})\n",
-            self.call.name(),
-            self.rows,
-            self.cols,
-            hex(tolerance),
-            hex(absolute),
-            hex(floor)
-        );
+        let mut text = format!("{} call, {} x {}, ", self.call.name(), self.rows, self.cols);
+        if let Some(number) = self.profile {
+            let name = profile(number).map_or("there is none", |(name, _)| name);
+            let _ = write!(text, "profile {number} ({name})");
+        } else {
+            let Settings {
+                limit,
+                credit,
+                tolerance,
+                absolute,
+                floor,
+            } = self.settings;
+            let _ = write!(
+                text,
+                "limit {limit}, credit {credit}, tolerance {tolerance:e} ({}), absolute {absolute:e} ({}), floor {floor:e} ({})",
+                hex(tolerance),
+                hex(absolute),
+                hex(floor)
+            );
+        }
+        text.push('\n');
         if self.matrix.len() == self.rows.wrapping_mul(self.cols) && self.cols > 0 {
             let _ = writeln!(text, "1\n1 {} {}", self.rows, self.cols);
             for row in self.matrix.chunks(self.cols) {

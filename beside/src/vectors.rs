@@ -2,23 +2,23 @@
 //! `vectors` replays them. In a reply every NaN is 7FF8000000000000.
 
 use crate::cases::{self, Draw};
-use crate::kinds::{Sizes, drawn, table};
+use crate::kinds::{Sizes, drawn, table, with_settings};
 use crate::rotations::{self, Turned};
 use crate::run::{Call, Reply, Run, Start, alike, untouched, unwritten};
 use crate::text::Case;
-use crate::{Report, Settings, pairs, refusals};
+use crate::{Report, Settings, by_number, pairs, refusals};
 use std::io::{self, Write};
 
 /// No list of a stored run may be longer: 49 x 49.
 pub const LONGEST: usize = 2401;
 
 /// The runs that are stored: the small cases, the refusals, drawn runs of every kind that make few
-/// passes, large tables, and pairs of runs, each run of a pair behind the other.
+/// passes, large tables, pairs of runs, each run of a pair behind the other, and runs by a profile's number.
 pub fn stored() -> Vec<Run> {
     let mut runs: Vec<Run> = cases::all().into_iter().map(Run::from).collect();
     runs.extend(refusals::all().into_iter().map(|(_, _, run)| run));
     for (most, many) in [(3, 500), (6, 600), (12, 170), (24, 30)] {
-        let drawn = (0..).map(|number| drawn(0x570E, number, Sizes::UpTo(most)).0);
+        let drawn = (0..).map(|number| with_settings(0x570E, number, Sizes::UpTo(most)).0);
         runs.extend(
             drawn
                 .filter(|run| told(run).first.report.passes <= MOST_PASSES)
@@ -27,6 +27,7 @@ pub fn stored() -> Vec<Run> {
     }
     runs.extend(large());
     runs.extend(pairs::stored().into_iter().flat_map(|pair| pair.runs));
+    runs.extend(by_number::stored());
     runs
 }
 
@@ -52,6 +53,7 @@ fn large() -> impl Iterator<Item = Run> {
             rows,
             cols,
             settings: Settings::DEFAULT,
+            profile: None,
             call: match number {
                 1 => Call::Plain,
                 _ => Call::Ordered,
@@ -79,6 +81,7 @@ impl From<Case> for Run {
             rows: case.rows,
             cols: case.cols,
             settings: case.settings,
+            profile: None,
             call: match case.uv {
                 Some(_) => Call::Ordered,
                 None => Call::Plain,
@@ -131,20 +134,29 @@ pub fn told(run: &Run) -> Told {
     Told { first, ordered }
 }
 
+/// So much more is the word of a call by a profile's number, which stands in the place of the limit; the
+/// other words of the settings are 0.
+pub const BY_PROFILE: u64 = 3;
+
 /// A run with what is told of it, as words. `differ` is how many of the run's calls have to differ
 /// from that: 0, or more where it is wrong on purpose. What the list of values holds at first is not
 /// stored: the program fills it by itself.
 pub fn words(run: &Run, told: &Told, differ: u64) -> Vec<u64> {
-    let s = &run.settings;
     let given = run.call.keeps() && matches!(run.start, Start::Given(..));
     let lent = run.lent(run.call);
     let lists = [&lent.matrix, &lent.u, &lent.v, &lent.values];
     assert!(lists.iter().all(|list| list.len() <= LONGEST), "too long");
-    let mut words = [run.rows, run.cols, s.limit, s.credit]
-        .map(|count| count as u64)
-        .to_vec();
-    words.extend([s.tolerance, s.absolute, s.floor].map(f64::to_bits));
-    words.extend([run.call as u64, u64::from(given)]);
+    let mut words = vec![run.rows as u64, run.cols as u64];
+    match run.profile {
+        None => {
+            let s = &run.settings;
+            words.extend([s.limit as u64, s.credit as u64]);
+            words.extend([s.tolerance, s.absolute, s.floor].map(f64::to_bits));
+            words.push(run.call as u64);
+        }
+        Some(number) => words.extend([number as u64, 0, 0, 0, 0, BY_PROFILE + run.call as u64]),
+    }
+    words.push(u64::from(given));
     words.extend(lists.map(|list| list.len() as u64));
     words.push(differ);
     let before = &lists[..if given { 3 } else { 1 }];
@@ -195,7 +207,8 @@ fn differing(run: &Run, told: &Told) -> u64 {
     let call = run.call.min(Call::Accumulating);
     let first = left(call, &told.first);
     let mut many = differs(call, &first);
-    if call.keeps() && Call::Plain.has(first.report.number) {
+    // The program leaves out the plain call where 4 or 5 is told, whose numbers they are not.
+    if call.keeps() && ![4, 5].contains(&first.report.number) {
         let plain = Reply {
             matrix: first.matrix.clone(),
             report: first.report,
@@ -243,6 +256,7 @@ fn replies_wrong(wrong: &mut Vec<(Run, Told)>) {
         rows: 2,
         cols: 2,
         settings: Settings::DEFAULT,
+        profile: None,
         call,
         matrix: vec![4.0, -6.0, -8.0, -8.0],
         start: start.clone(),
@@ -451,6 +465,7 @@ pub fn wrong() -> Vec<(Run, Told)> {
     replies_wrong(&mut wrong);
     counts_wrong(&mut wrong);
     runs_wrong(&mut wrong);
+    wrong.extend(by_number::wrong());
     wrong
 }
 
@@ -483,18 +498,19 @@ pub fn write(runs: impl Iterator<Item = Run>, out: &mut impl Write) -> io::Resul
 /// The line that the program prints of these runs, and so many that are wrong on purpose, where all is as it should be.
 pub fn summary(runs: impl Iterator<Item = Run>, wrong: usize) -> String {
     let mut by_word = [0; 4];
-    let (mut passes, mut in_order) = (0, 0);
+    let (mut passes, mut in_order, mut by_profile) = (0, 0, 0);
     for run in runs {
         let Told { first, ordered } = told(&run);
         by_word[first.report.word as usize] += 1;
         passes += first.report.passes;
+        by_profile += u64::from(run.profile.is_some());
         in_order += u64::from(ordered.is_some_and(|reply| reply.report.number == 0));
     }
     let [refused, settled, stopped, quiet] = by_word;
     let many: u64 = by_word.iter().sum();
     format!(
         "{many} runs: {refused} refused, {settled} settled, {stopped} stopped, {quiet} quiet, {passes} passes, \
-         {in_order} in order, 0 differ; {wrong} wrong on purpose, {wrong} found\n"
+         {in_order} in order, {by_profile} by profile, 0 differ; {wrong} wrong on purpose, {wrong} found\n"
     )
 }
 

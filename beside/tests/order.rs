@@ -139,6 +139,7 @@ fn the_order_of_the_refusals() {
         rows: 0,
         cols: 49,
         settings,
+        profile: None,
         call: Call::Ordered,
         matrix: vec![1.0, f64::NAN],
         start: Start::Given(vec![1.0], vec![1.0]),

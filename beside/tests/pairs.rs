@@ -7,7 +7,7 @@ use beside::pairs::{
     Began, COUNTS, Pair, Place, SIDES, Seen, Side, WAYS, Way, counted, drawn, stored,
 };
 use beside::run::{Call, Reply, Run, Start, alike, untouched};
-use beside::vectors;
+use beside::{by_number, vectors};
 use std::fs;
 
 fn pairs(seed: u64, many: u64) -> impl Iterator<Item = Pair> {
@@ -501,6 +501,7 @@ impl Words {
                 absolute: f64::from_bits(head[5]),
                 floor: f64::from_bits(head[6]),
             },
+            profile: None,
             call,
             matrix: self.floats(matrix),
             start: match given {
@@ -533,14 +534,15 @@ impl Words {
     }
 }
 
-/// The stored pairs stand at the end of the stored runs, are the drawn ones, and their stored answers
-/// keep the law.
+/// The stored pairs stand behind the other stored runs with settings, are the drawn ones, and their stored
+/// answers keep the law.
 #[test]
 fn the_stored_answers_keep_the_law() {
     let pairs = stored();
     assert_eq!(pairs.len(), 40);
     let mut words = Words::stored();
-    for _ in 0..vectors::stored().len() - 2 * pairs.len() {
+    let behind = by_number::stored().len();
+    for _ in 0..vectors::stored().len() - behind - 2 * pairs.len() {
         words.run();
     }
     let mut counts = [0; COUNTS.len()];

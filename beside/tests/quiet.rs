@@ -1,7 +1,7 @@
 //! The word of a run that has not settled: by tables with one thing in them, each of which a slip would
 //! tell wrong, and by real runs, and that the drawn and the stored runs show all of it.
 
-use beside::kinds::{Sizes, drawn};
+use beside::kinds::{Sizes, drawn, with_settings};
 use beside::quiet::{COUNTS, Corner, couplings, word, zero};
 use beside::run::{Call, Run};
 use beside::survey::split;
@@ -323,7 +323,7 @@ mod limits {
     fn what_a_quiet_run_lacks() {
         let (mut lacking, mut never) = (0, 0);
         for number in 0..40_000 {
-            let (mut run, _) = drawn(3, number, Sizes::UpTo(6));
+            let (mut run, _) = with_settings(3, number, Sizes::UpTo(6));
             run.call = Call::Plain;
             run.settings = at(match number % 2 {
                 0 => 100,

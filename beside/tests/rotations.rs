@@ -2,7 +2,7 @@
 //! every kind; that the slips by which it could be told wrong are seen, and that the drawn and the stored
 //! runs show all of it.
 
-use beside::kinds::{Sizes, TABLES, drawn};
+use beside::kinds::{Sizes, TABLES, drawn, with_settings};
 use beside::reduction::matrix::francis::givens::implicit_givens_rotation;
 use beside::rotations::{COUNTS, INFINITE, MOST, SHOWING, SLIPS, Turned, slips};
 use beside::run::{Call, Run};
@@ -71,7 +71,7 @@ fn drawn_runs_keep_the_rule() {
 fn pass_by_pass() {
     let (mut sweeps, mut drops) = ([0; 7], 0);
     for number in 0..4_000 {
-        let (mut run, _) = drawn(19, number, Sizes::UpTo(6));
+        let (mut run, _) = with_settings(19, number, Sizes::UpTo(6));
         let call = run.call.min(Call::Accumulating);
         run.settings.credit = 0;
         let mut report = |limit: usize| {

@@ -3,9 +3,10 @@
 
 use beside::run::{Call, Reply, Run, Start};
 use beside::vectors::{
-    LONGEST, Told, entry, stored, stored_summary, told, words, write, write_stored, wrong,
+    BY_PROFILE, LONGEST, Told, entry, stored, stored_summary, told, words, write, write_stored,
+    wrong,
 };
-use beside::{Report, Settings, cases, refusals};
+use beside::{Report, Settings, by_number, cases, refusals};
 use std::fs;
 
 fn file(name: &str) -> Vec<u8> {
@@ -56,6 +57,7 @@ fn the_words_of_a_refusal() {
         rows: 1 << 63,
         cols: 2,
         settings: Settings::LOW_FLOOR,
+        profile: None,
         call: Call::Ordered,
         matrix: vec![f64::INFINITY],
         start: Start::Given(vec![], vec![1.0, 2.0]),
@@ -75,6 +77,39 @@ fn the_words_of_a_refusal() {
     let fewer = words(&kept, &told(&kept), 0);
     assert_eq!(fewer[7..14], [1, 1, 1, 0, 2, 0, 0]);
     assert_eq!(fewer[14..], all[14..27]);
+}
+
+/// By a profile's number: the number stands in the place of the limit, the rest of the settings is 0.
+#[test]
+fn the_words_of_a_run_by_profile() {
+    let with = Run::from(cases::case(2, 2, &[2.0, 0.0, 0.0, 1.0], Settings::DEFAULT));
+    for (call, word) in [
+        (Call::Plain, 3),
+        (Call::Accumulating, 4),
+        (Call::Ordered, 5),
+    ] {
+        let with = Run {
+            call,
+            ..with.clone()
+        };
+        let by = |number: usize| Run {
+            profile: Some(number),
+            ..with.clone()
+        };
+        // All else is as with the settings of the profile, which are the default ones.
+        let (own, other) = (
+            words(&by(1), &told(&by(1)), 0),
+            words(&with, &told(&with), 0),
+        );
+        assert_eq!(own[2..8], [1, 0, 0, 0, 0, word]);
+        assert_eq!((&own[..2], &own[8..]), (&other[..2], &other[8..]));
+        let none = by((1 << 32) + 2);
+        let refused = words(&none, &told(&none), 0);
+        assert_eq!(refused[2..8], [(1 << 32) + 2, 0, 0, 0, 0, word]);
+        let report = [10, 0, 0, 0, 0, 0, 0, 0, 0, 0];
+        let both = [report, report].concat();
+        assert_eq!(refused[18..], both[..if word == 5 { 20 } else { 10 }]);
+    }
 }
 
 /// With 12 the ordered call has the accumulating one's words but for the number, and no lists.
@@ -104,12 +139,16 @@ fn each_run_ends_where_the_next_begins() {
         .chunks_exact(8)
         .map(|bytes| u64::from_le_bytes(bytes.try_into().unwrap()))
         .collect();
-    let (mut at, mut runs, mut marked) = (0, 0, 0);
+    let (mut at, mut runs, mut marked, mut by_profile) = (0, 0, 0, 0);
     while at < words.len() {
         let head = &words[at..at + 14];
         let [call, start, matrix, u, v, values, differ] = head[7..] else {
             unreachable!()
         };
+        let profile = call >= BY_PROFILE;
+        let call = if profile { call - BY_PROFILE } else { call };
+        assert!(!profile || head[3..7] == [0; 4]);
+        by_profile += u64::from(profile && differ == 0);
         assert!(call <= 2 && start <= call && differ <= 1 + call);
         assert!([matrix, u, v, values].iter().all(|&n| n <= LONGEST as u64));
         assert!(call >= 1 || (u, v) == (0, 0));
@@ -120,10 +159,11 @@ fn each_run_ends_where_the_next_begins() {
             assert!(differ > 0 || known.contains(&number));
             at += Report::NAMES.len() + if number == 0 { lists as usize } else { 0 };
         };
-        answer(&[0, 1, 2, 3, 4, 5, 6, 7, 8], matrix + u + v);
+        let settings: &[u64] = if profile { &[10] } else { &[6, 7] };
+        let known = [&[0, 1, 2, 3, 4, 5, 8], settings].concat();
+        answer(&known, matrix + u + v);
         if call == 2 {
-            let known = [0, 1, 2, 3, 4, 5, 6, 7, 8, 11, 12, 13];
-            answer(&known, values + u + v);
+            answer(&[&known[..], &[11, 12, 13]].concat(), values + u + v);
         }
         if differ == 0 {
             assert_eq!(marked, 0, "the right ones come first");
@@ -135,6 +175,7 @@ fn each_run_ends_where_the_next_begins() {
     // The last run lacks a byte.
     assert_eq!(at, words.len() + 1);
     assert_eq!((runs, marked), (stored().len(), wrong().len() + 1));
+    assert_eq!(by_profile, by_number::stored().len() as u64);
 }
 
 /// Each bit that is told of a run is one of its words, where the program looks for it.
@@ -201,7 +242,7 @@ fn nans_are_alike() {
 
 #[test]
 fn refused_as_told() {
-    for (call, told, run) in refusals::all() {
+    for (call, told, run) in refusals::all().into_iter().chain(refusals::by_profile()) {
         assert_eq!(run.reply(call).report.number, told, "{run:?}");
         // What the accumulating call refuses, the ordered one does.
         if call == Call::Accumulating && told != 0 {

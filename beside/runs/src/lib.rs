@@ -2,25 +2,29 @@
 //! the call must get.
 
 use beside::order::{diagonal, places};
+use beside::profiles::profile;
 use beside::quiet::{self, Corner};
 use beside::rotations::Turned;
 use beside::run::{Call, Reply, Run, alike, untouched, unwritten};
-use beside::{Report, Walked};
+use beside::{Report, Settings, Walked};
 use merotunki::raw;
 
 pub mod lots;
 pub mod pairs;
 
-/// What the library replies.
-pub fn library(run: &Run, call: Call) -> Reply {
-    let s = &run.settings;
-    let choice = raw::Choice {
+fn choice(s: &Settings) -> raw::Choice {
+    raw::Choice {
         limit: s.limit as u64,
         credit: s.credit as u64,
         tolerance: s.tolerance,
         absolute: s.absolute,
         floor: s.floor,
-    };
+    }
+}
+
+/// What the library replies.
+pub fn library(run: &Run, call: Call) -> Reply {
+    let choice = choice(&run.settings);
     let Reply {
         mut matrix,
         mut u,
@@ -29,12 +33,15 @@ pub fn library(run: &Run, call: Call) -> Reply {
         ..
     } = run.lent(call);
     let (rows, cols) = (run.rows, run.cols);
-    let answer = match call {
-        Call::Plain => raw::svd(&mut matrix, rows, cols, choice),
-        Call::Accumulating => raw::full_svd(&mut matrix, (&mut u, &mut v), rows, cols, choice),
-        Call::Ordered => {
-            let factors = (&mut u[..], &mut v[..]);
-            raw::ordered_svd(&mut matrix, factors, &mut values, rows, cols, choice)
+    let (b, factors, list) = (&mut matrix[..], (&mut u[..], &mut v[..]), &mut values[..]);
+    let answer = match (call, run.profile) {
+        (Call::Plain, None) => raw::svd(b, rows, cols, choice),
+        (Call::Accumulating, None) => raw::full_svd(b, factors, rows, cols, choice),
+        (Call::Ordered, None) => raw::ordered_svd(b, factors, list, rows, cols, choice),
+        (Call::Plain, Some(number)) => raw::profile_svd(b, rows, cols, number),
+        (Call::Accumulating, Some(number)) => raw::profile_full_svd(b, factors, rows, cols, number),
+        (Call::Ordered, Some(number)) => {
+            raw::profile_ordered_svd(b, factors, list, rows, cols, number)
         }
     };
     Reply {
@@ -74,6 +81,39 @@ pub fn differs(got: &Reply, must: &Reply) -> Option<String> {
         .map(|(name, ..)| name.to_string())
 }
 
+/// The law of a call by a profile's number: it is the call with the profile's settings, every bit of the
+/// reply, NaNs too. None where there is no such profile.
+fn as_settings(run: &Run, call: Call, got: &Reply) -> Option<bool> {
+    run.profile?;
+    let with = Run {
+        settings: run.chosen()?,
+        profile: None,
+        ..run.clone()
+    };
+    let reply = library(&with, call);
+    let lists = |reply: &Reply| {
+        let lists = [&reply.matrix, &reply.u, &reply.v, &reply.values];
+        lists.map(|list| list.iter().map(|x| x.to_bits()).collect::<Vec<u64>>())
+    };
+    Some(reply.report == got.report && lists(&reply) == lists(got))
+}
+
+/// Whether the library's own table says of this number what the table of profiles does: the settings with
+/// number 0, or 10 and zeros.
+pub fn table_agrees(number: usize) -> bool {
+    let got = raw::profile(number);
+    let counts = [got.number, got.limit, got.credit];
+    let bits = [got.tolerance, got.absolute, got.floor].map(f64::to_bits);
+    match profile(number) {
+        None => (counts, bits) == ([10, 0, 0], [0; 3]),
+        Some((_, settings)) => {
+            let s = choice(&settings);
+            let must = [s.tolerance, s.absolute, s.floor].map(f64::to_bits);
+            (counts, bits) == ([0, s.limit, s.credit], must)
+        }
+    }
+}
+
 /// The laws of an accepted reply, on the library's own replies: the counts, the rotations by the ranges at
 /// the original's sweeps, the word by its own table, the bound, credit 0, and the same answer at a greater
 /// limit once it is settled.
@@ -93,7 +133,10 @@ fn breaks(
         ..
     } = got.report;
     let card = run.rows.min(run.cols) as u64;
-    let (limit, credit) = (run.settings.limit as u64, run.settings.credit as u64);
+    let Some(settings) = run.chosen() else {
+        return Some("accepted, and there is no such profile");
+    };
+    let (limit, credit) = (settings.limit as u64, settings.credit as u64);
     if passes != sweeps + drops || drops + range != card || range == 0 {
         return Some("law of the counts");
     }
@@ -111,8 +154,11 @@ fn breaks(
         return Some("law of credit 0");
     }
     let limit = greater.filter(|_| word == Report::SETTLED)?;
-    let mut again = run.clone();
-    again.settings.limit = limit;
+    let again = Run {
+        settings: Settings { limit, ..settings },
+        profile: None,
+        ..run.clone()
+    };
     let later = library(&again, call);
     differs(&later, got).map(|_| "law of greater limits")
 }
@@ -120,7 +166,10 @@ fn breaks(
 fn reached(run: &Run, got: &Reply) -> bool {
     let Report { passes, drops, .. } = got.report;
     let card = run.rows.min(run.cols) as u64;
-    let (limit, credit) = (run.settings.limit as u64, run.settings.credit as u64);
+    let Some(settings) = run.chosen() else {
+        return false;
+    };
+    let (limit, credit) = (settings.limit as u64, settings.credit as u64);
     card > 2 && credit > 0 && drops > 0 && passes == limit + credit * (card - 2)
 }
 
@@ -142,7 +191,67 @@ pub struct Seen {
     pub turned: Option<Turned>,
     /// Of the ordered call, where it was made.
     pub order: Option<Order>,
+    /// Of a run by a profile's number.
+    pub asked: Option<Asked>,
 }
+
+/// What was seen of a run by a profile's number.
+#[derive(Clone, Debug)]
+pub struct Asked {
+    profile: usize,
+    /// There is no such profile.
+    none: bool,
+    /// The number of the call that is lent the most, where it is refused before the run, else 0.
+    number: u64,
+    /// Readings are bad.
+    bad: bool,
+}
+
+impl Asked {
+    /// None where the run is made with settings.
+    fn of(run: &Run) -> Option<Asked> {
+        let number = run.profile?;
+        Some(Asked {
+            profile: number,
+            none: profile(number).is_none(),
+            number: run.refusal(run.call).map_or(0, |report| report.number),
+            bad: run.matrix.iter().any(|x| !x.is_finite()),
+        })
+    }
+}
+
+/// What runs by a profile's number can be, and which of them are so.
+pub const ASKED: [(&str, fn(&Asked) -> bool); 14] = [
+    ("profile 1, vane", |asked| asked.profile == 1),
+    ("profile 2, hot wire", |asked| asked.profile == 2),
+    ("profile 3, ultrasonic", |asked| asked.profile == 3),
+    ("profile 4, smoke tube", |asked| asked.profile == 4),
+    ("accepted", |asked| asked.number == 0),
+    (
+        "refused 1 to 5 or 11, of a profile that there is",
+        |asked| !asked.none && ![0, 8].contains(&asked.number),
+    ),
+    ("refused 8", |asked| asked.number == 8),
+    ("refused 10", |asked| asked.number == 10),
+    ("refused 10, profile 0", |asked| {
+        asked.number == 10 && asked.profile == 0
+    }),
+    ("refused 10, profile 5", |asked| {
+        asked.number == 10 && asked.profile == 5
+    }),
+    ("refused 10, 1 to 4 in the lower 32 bits", |asked| {
+        asked.number == 10 && (1..=4).contains(&(asked.profile as u32))
+    }),
+    ("refused 10, with 8 as well", |asked| {
+        asked.number == 10 && asked.bad
+    }),
+    ("refused 1 to 5, with 10 as well", |asked| {
+        asked.none && asked.number <= 5
+    }),
+    ("refused 11, with 10 as well", |asked| {
+        asked.none && asked.number == 11
+    }),
+];
 
 /// What was seen of the ordered call: its number, and of the diagonal after the run what the order
 /// depends on.
@@ -193,7 +302,7 @@ pub const MEETINGS: [(&str, fn(&Order) -> bool); 17] = [
         order.number == 0 && order.minus_zero
     }),
     ("refused 11", |order| order.number == 11),
-    ("refused 11, with 6, 7 or 8 as well", |order| {
+    ("refused 11, with 6, 7, 8 or 10 as well", |order| {
         order.number == 11 && order.two
     }),
     ("refused 1 to 5, with 11 as well", |order| {
@@ -263,8 +372,12 @@ fn agrees(kept: &Reply, other: &Reply, call: Call) -> bool {
 /// Makes the calls of the run and holds them against the original and the laws. The error names the
 /// call and what is wrong.
 pub fn check(run: &Run, greater: Option<usize>) -> Result<Seen, String> {
-    let greater = greater.filter(|&limit| limit > run.settings.limit);
-    let mut seen = Seen::default();
+    let chosen = run.chosen();
+    let greater = greater.filter(|&limit| chosen.is_some_and(|chosen| limit > chosen.limit));
+    let mut seen = Seen {
+        asked: Asked::of(run),
+        ..Seen::default()
+    };
     // The accumulating call's reply, by the library and by the original, whose walk is recorded.
     let mut before: Option<(Reply, Reply, Walked)> = None;
     let calls = [Call::Accumulating, Call::Ordered, Call::Plain];
@@ -281,6 +394,9 @@ pub fn check(run: &Run, greater: Option<usize>) -> Result<Seen, String> {
                 "{name} call: {what} differs\n  original {:?}\n  library  {:?}\n",
                 must.report, got.report
             ));
+        }
+        if as_settings(run, call, &got) == Some(false) {
+            return Err(format!("{name} call: law of profile as settings\n"));
         }
         if got.report.number == 0 {
             if let Some(law) = breaks(run, call, &got, walked, greater) {
@@ -307,11 +423,15 @@ pub fn check(run: &Run, greater: Option<usize>) -> Result<Seen, String> {
             before = Some((got, must, walked));
         }
     }
+    if let Some(number) = run.profile.filter(|&number| !table_agrees(number)) {
+        let told = raw::profile(number);
+        return Err(format!("table of profiles: {number} differs, {told:?}\n"));
+    }
     Ok(seen)
 }
 
-/// The smallest run still wrong that is found from this one: rows and columns left out, settings
-/// brought to the defaults, entries made simple.
+/// The smallest run still wrong that is found from this one: rows and columns left out, the profile's
+/// settings in its place, settings brought to the defaults, entries made simple.
 pub fn shrunk(run: &Run, greater: Option<usize>) -> Run {
     let wrong = |run: &Run| check(run, greater).is_err();
     let mut least = run.clone();
@@ -379,21 +499,29 @@ fn simpler(run: &Run) -> Vec<Run> {
     if sized && matches!(run.start, Start::Given(..)) {
         with(&|run| run.start = Start::Identity);
     }
-    if s.tolerance.to_bits() != default.tolerance.to_bits() {
-        with(&|run| run.settings.tolerance = default.tolerance);
-    }
-    if s.absolute.to_bits() != default.absolute.to_bits() {
-        with(&|run| run.settings.absolute = default.absolute);
-    }
-    if s.floor.to_bits() != default.floor.to_bits() {
-        with(&|run| run.settings.floor = default.floor);
-    }
-    if s.credit != default.credit {
-        with(&|run| run.settings.credit = default.credit);
-    }
-    for limit in [0, s.limit / 2, s.limit.saturating_sub(1)] {
-        if limit < s.limit {
-            with(&|run| run.settings.limit = limit);
+    if let Some(number) = run.profile {
+        let settings = run.chosen().unwrap_or(default);
+        with(&|run| (run.settings, run.profile) = (settings, None));
+        for less in [0, 1, 5].into_iter().filter(|&less| less < number) {
+            with(&|run| run.profile = Some(less));
+        }
+    } else {
+        if s.tolerance.to_bits() != default.tolerance.to_bits() {
+            with(&|run| run.settings.tolerance = default.tolerance);
+        }
+        if s.absolute.to_bits() != default.absolute.to_bits() {
+            with(&|run| run.settings.absolute = default.absolute);
+        }
+        if s.floor.to_bits() != default.floor.to_bits() {
+            with(&|run| run.settings.floor = default.floor);
+        }
+        if s.credit != default.credit {
+            with(&|run| run.settings.credit = default.credit);
+        }
+        for limit in [0, s.limit / 2, s.limit.saturating_sub(1)] {
+            if limit < s.limit {
+                with(&|run| run.settings.limit = limit);
+            }
         }
     }
     for at in 0..run.matrix.len() {

@@ -1,16 +1,20 @@
 //! The comparison itself: drawn runs agree, each kind of reply is met, and a reply that is wrong is seen.
 
+use beside::by_number::{apart, stored};
 use beside::kinds::{Sizes, drawn};
+use beside::profiles::PROFILES;
+use beside::refusals::NO_PROFILE;
 use beside::rotations::{INFINITE, SHOWING, slips};
 use beside::run::{Call, Run, Start, unwritten};
 use beside::{Report, Settings, refusals};
-use runs::{MEETINGS, RARE, check, differs, library, shrunk};
+use runs::{ASKED, MEETINGS, RARE, check, differs, library, shrunk, table_agrees};
 
 fn run(rows: usize, cols: usize, matrix: &[f64]) -> Run {
     Run {
         rows,
         cols,
         settings: Settings::DEFAULT,
+        profile: None,
         call: Call::Ordered,
         matrix: matrix.to_vec(),
         start: Start::Identity,
@@ -20,8 +24,9 @@ fn run(rows: usize, cols: usize, matrix: &[f64]) -> Run {
 
 #[test]
 fn drawn_runs_agree() {
-    let mut numbers = [0; 9];
+    let mut numbers = [0; 11];
     let mut meetings = [0; MEETINGS.len()];
+    let mut by_profile = [0; ASKED.len()];
     for number in 0..4_000 {
         let (run, _) = drawn(99, number, Sizes::UpTo(8));
         let seen = check(&run, Some(1_000)).unwrap_or_else(|wrong| panic!("{wrong}{}", run.told()));
@@ -29,8 +34,16 @@ fn drawn_runs_agree() {
         for (many, (_, met)) in meetings.iter_mut().zip(MEETINGS) {
             *many += u64::from(seen.order.as_ref().is_some_and(met));
         }
+        for (many, (_, is)) in by_profile.iter_mut().zip(ASKED) {
+            *many += u64::from(seen.asked.as_ref().is_some_and(is));
+        }
     }
-    assert!(numbers.iter().all(|&many| many > 0), "{numbers:?}");
+    // There is no 9.
+    let met = (0..numbers.len()).all(|number| (numbers[number] > 0) == (number != 9));
+    assert!(met, "{numbers:?}");
+    for (many, (name, _)) in by_profile.iter().zip(ASKED) {
+        assert!(*many > 0, "{name}");
+    }
     for (many, (name, _)) in meetings.iter().zip(MEETINGS) {
         assert!(*many > 0 || name == RARE, "{name}");
     }
@@ -44,7 +57,7 @@ fn fixed_runs_agree() {
         .find(|(name, _)| *name == RARE)
         .unwrap();
     let mut rare = 0;
-    for (call, told, run) in refusals::all() {
+    for (call, told, run) in refusals::all().into_iter().chain(refusals::by_profile()) {
         let seen = check(&run, None).unwrap_or_else(|wrong| panic!("{wrong}{}", run.told()));
         assert_eq!(library(&run, call).report.number, told, "{}", run.told());
         rare += u64::from(seen.order.as_ref().is_some_and(is_rare));
@@ -173,6 +186,59 @@ fn rotations_are_told() {
                 assert_eq!(told.as_deref(), Some("the report's rotations"), "{name}");
             }
         }
+    }
+}
+
+/// The library's own table is the table, and each call by a profile's number is the call with its settings.
+/// An answer that is another profile's is seen.
+#[test]
+fn profiles_are_told() {
+    let numbers = (0..300).chain(NO_PROFILE).chain([usize::MAX - 3, 1 << 32]);
+    for number in numbers {
+        assert!(table_agrees(number), "{number}");
+    }
+    for run in stored() {
+        let seen = check(&run, Some(1_000)).unwrap_or_else(|wrong| panic!("{wrong}{}", run.told()));
+        assert!(seen.asked.is_some());
+    }
+    for apart in apart() {
+        let [one, other] = &apart.runs;
+        for call in [apart.call, Call::Plain] {
+            let got = [one, other].map(|run| library(run, call));
+            let must = [one, other].map(|run| run.reply(call));
+            for at in [0, 1] {
+                assert_eq!(differs(&got[at], &must[at]), None);
+                assert!(differs(&got[at], &must[1 - at]).is_some());
+            }
+        }
+    }
+    for number in 1..=PROFILES.len() {
+        let run = Run {
+            profile: Some(number),
+            ..run(2, 1, &[3.0, 4.0])
+        };
+        assert_eq!(library(&run, Call::Ordered).values, [5.0]);
+    }
+}
+
+/// 10 comes before 8 and after all else, carries no place and leaves everything as it was.
+#[test]
+fn no_such_profile() {
+    let refused = |number: u64| Report {
+        number,
+        ..Report::default()
+    };
+    for number in NO_PROFILE {
+        let mut unfit = run(2, 2, &[1.0, f64::NAN, 3.0, 4.0]);
+        unfit.profile = Some(number);
+        unfit.start = Start::Given(vec![f64::NAN; 4], vec![7.0; 4]);
+        for call in [Call::Plain, Call::Accumulating, Call::Ordered] {
+            assert_eq!(library(&unfit, call).report, refused(10));
+        }
+        assert!(check(&unfit, None).is_ok());
+        unfit.values.clear();
+        assert_eq!(library(&unfit, Call::Ordered).report, refused(11));
+        assert_eq!(library(&unfit, Call::Accumulating).report, refused(10));
     }
 }
 

@@ -1,10 +1,11 @@
 //! Answers the cases of standard input, a line each; `oracle changes` prints instead every line in
-//! which what was built differs from the original, and `oracle refused` the fixed small tables with bad
-//! readings, each with what is told of them.
+//! which what was built differs from the original, `oracle refused` the fixed small tables with bad
+//! readings, each with what is told of them, and `oracle profiles` the small cases by a profile's number with
+//! their answers.
 
-use beside::refusals;
-use beside::run::{Call, Run};
-use beside::text::{Case, patterns};
+use beside::run::{Call, Reply, Run};
+use beside::text::{Case, hexes, patterns};
+use beside::{by_number, refusals};
 use std::io::{self, BufRead, Write};
 use std::process::ExitCode;
 
@@ -21,7 +22,11 @@ fn main() -> ExitCode {
             refused();
             Ok(())
         }
-        _ => Err("oracle < cases, oracle changes, or oracle refused".to_string()),
+        ["profiles"] => {
+            profiles();
+            Ok(())
+        }
+        _ => Err("oracle < cases, oracle changes, oracle refused, or oracle profiles".to_string()),
     };
     match done {
         Ok(()) => ExitCode::SUCCESS,
@@ -53,6 +58,30 @@ fn refused() {
         println!(
             "{} {} | {readings} | {number} {row} {column} {bad}",
             run.rows, run.cols
+        );
+    }
+}
+
+/// The call, rows, columns, the number of the profile and the four lists; then the words of the report and the
+/// lists afterwards. Lists that the call is not lent are empty.
+fn profiles() {
+    let lists = |reply: &Reply, digits: fn(&[f64]) -> String| {
+        [&reply.matrix, &reply.u, &reply.v, &reply.values]
+            .map(|list| digits(list))
+            .join(" | ")
+    };
+    for run in by_number::few() {
+        let (lent, reply) = (run.lent(run.call), run.reply(run.call));
+        let words = reply.report.words().map(|word| word.to_string());
+        println!(
+            "{} {} {} {} | {} | {} | {}",
+            run.call.name(),
+            run.rows,
+            run.cols,
+            run.profile.expect("by a profile"),
+            lists(&lent, patterns),
+            words.join(" "),
+            lists(&reply, hexes)
         );
     }
 }

@@ -8,7 +8,7 @@ use beside::readings::{self, COUNTS};
 use beside::run::Run;
 use beside::{Report, quiet, rotations};
 use runs::lots::{self, all, ended, met, number};
-use runs::{MEETINGS, Seen, check, shrunk};
+use runs::{ASKED, MEETINGS, Seen, check, shrunk};
 use std::process::ExitCode;
 use std::time::Instant;
 
@@ -16,7 +16,7 @@ use std::time::Instant;
 struct Counts {
     runs: u64,
     calls: u64,
-    numbers: [u64; 9],
+    numbers: [u64; 11],
     /// Of the runs that are refused by 8.
     bad: [u64; COUNTS.len()],
     /// Refused by another number, with bad readings as well.
@@ -41,6 +41,8 @@ struct Counts {
     turned: [u64; rotations::COUNTS.len()],
     ordered: u64,
     meetings: [u64; MEETINGS.len()],
+    by_profile: u64,
+    asked: [u64; ASKED.len()],
 }
 
 impl lots::Counts for Counts {
@@ -48,7 +50,7 @@ impl lots::Counts for Counts {
         Counts {
             runs: 0,
             calls: 0,
-            numbers: [0; 9],
+            numbers: [0; 11],
             bad: [0; COUNTS.len()],
             before: 0,
             words: [0; 4],
@@ -66,6 +68,8 @@ impl lots::Counts for Counts {
             turned: [0; rotations::COUNTS.len()],
             ordered: 0,
             meetings: [0; MEETINGS.len()],
+            by_profile: 0,
+            asked: [0; ASKED.len()],
         }
     }
 
@@ -80,6 +84,7 @@ impl lots::Counts for Counts {
         add(&mut self.corners, &other.corners);
         add(&mut self.shapes, &other.shapes);
         add(&mut self.meetings, &other.meetings);
+        add(&mut self.asked, &other.asked);
         add(&mut self.turned, &other.turned);
         add(&mut self.rotations[..2], &other.rotations[..2]);
         self.rotations[2] = self.rotations[2].max(other.rotations[2]);
@@ -94,6 +99,7 @@ impl lots::Counts for Counts {
         self.drops += other.drops;
         self.most = self.most.max(other.most);
         self.ordered += other.ordered;
+        self.by_profile += other.by_profile;
     }
 }
 
@@ -151,6 +157,12 @@ impl Counts {
                 *many += u64::from(met(order));
             }
         }
+        if let Some(asked) = &seen.asked {
+            self.by_profile += 1;
+            for (many, (_, is)) in self.asked.iter_mut().zip(ASKED) {
+                *many += u64::from(is(asked));
+            }
+        }
     }
 
     fn print(&self) {
@@ -168,14 +180,15 @@ impl Counts {
         for (many, (name, _)) in self.corners.iter().zip(quiet::COUNTS) {
             println!("  {name}: {}", met(*many));
         }
-        for number in 1..9 {
+        // In the order in which they count; there is no 9.
+        for number in (1..8).chain([10, 8]) {
             println!("refused {number}: {}", self.numbers[number]);
         }
         for (many, (name, _)) in self.bad.iter().zip(COUNTS) {
             println!("  {name}: {}", met(*many));
         }
         println!(
-            "refused 1 to 7, with bad readings as well: {}",
+            "refused 1 to 7 or 10, with bad readings as well: {}",
             met(self.before)
         );
         println!(
@@ -201,6 +214,10 @@ impl Counts {
         println!("shapes accepted {shapes} of 2304, each at least {least} times");
         println!("ordered calls {}", self.ordered);
         for (many, (name, _)) in self.meetings.iter().zip(MEETINGS) {
+            println!("  {name}: {}", met(*many));
+        }
+        println!("runs by a profile {}", met(self.by_profile));
+        for (many, (name, _)) in self.asked.iter().zip(ASKED) {
             println!("  {name}: {}", met(*many));
         }
         println!(
