@@ -21,8 +21,8 @@ use Rattle.method.specs.Checks.Readings.{FirstBad}
 use Rattle.method.specs.Checks.Table.{none-counted}
 use Rattle.method.specs.Report as Report
 use Rattle.method.specs.Report.{refused}
-use Rattle.method.specs.Outcome.{Outcome, outcomeOf, card, accepted, outcome}
-use Rattle.method.specs.Ordered.{Ordered, orderedOf, refusedAfter, orderedOutcome}
+use Rattle.method.specs.Outcome.{Outcome, outcomeOf, card, accepted}
+use Rattle.method.specs.Ordered.{orderedOf, refusedAfter}
 use Rattle.method.specs.Ordered.Numbers.{afterMeanings}
 use Rattle.method.specs.Profiles.{noProfile, profileAt, Picked, picked, settingsIn, settingsBy, profileOutcome}
 use Rattle.method.specs.Profiles.{profilePlain, profileFull, profileOrdered, refusalBy, orderedChecksBy, orderedRefusalBy}
@@ -31,7 +31,7 @@ use Rattle.method.specs.Profiles.Ways as Ways
 use Rattle.method.specs.Profiles.Numbers.{meaningsBy, orderedMeaningsBy, refusal-told, numbers-by, place-by}
 use Rattle.method.specs.Profiles.Numbers.{ordered-numbers-by, ordered-place-by}
 use Rattle.checks.specs.declared.settings.Settings.{Settings}
-use Rattle.checks.specs.Values.{settingsOf, placeIn, refusalIn}
+use Rattle.checks.specs.Values.{placeIn, refusalIn}
 use Rattle.checks.specs.Answers.{fromSettings}
 use Rattle.profiles.specs.declared.Picked as Profiles
 use Rattle.profiles.specs.Values.{pickedIn}
@@ -41,7 +41,6 @@ use Rattle.svd.specs.Told.{reportsOf, listsOf}
 use Rattle.svd.specs.Demands.{Allowed, demand-3}
 use Rattle.order.specs.Told as Told
 use Rattle.order.specs.Demands.{OrderedAllowed, refuses}
-use Rattle.by_profile.specs.Ways.{picks-settings}
 
 -- ---- what a call may answer
 

@@ -5,39 +5,43 @@ ghost use Rattle.method.specs.Profiles.{noProfile, picked};
 ghost use Rattle.profiles.specs.Values.{pickedIn};
 use checks::settings::Settings;
 
-// The profiles, from number 1 on. They all have the default floor.
-const PROFILES: [Settings; 4] = [
+// What an instrument is given; the floor is the default one for all.
+struct Profile {
+    limit: usize,
+    credit: usize,
+    tolerance: f64,
+    absolute: f64,
+}
+
+// The profiles, from number 1 on.
+const PROFILES: [Profile; 4] = [
     // 1, vane.
-    Settings {
+    Profile {
         limit: 100,
         credit: 50,
         tolerance: 1e-10,
         absolute: 1e-12,
-        floor: Settings::FLOOR,
     },
     // 2, hot wire.
-    Settings {
+    Profile {
         limit: 200,
         credit: 50,
         tolerance: 1e-12,
         absolute: 1e-13,
-        floor: Settings::FLOOR,
     },
     // 3, ultrasonic.
-    Settings {
+    Profile {
         limit: 400,
         credit: 100,
         tolerance: 1e-13,
         absolute: 1e-14,
-        floor: Settings::FLOOR,
     },
     // 4, smoke tube.
-    Settings {
+    Profile {
         limit: 50,
         credit: 25,
         tolerance: 1e-6,
         absolute: 1e-8,
-        floor: Settings::FLOOR,
     },
 ];
 
@@ -71,8 +75,15 @@ pub fn pick(profile: usize) -> Picked
             },
         };
     }
+    let entry = PROFILES[profile - 1];
     Picked {
         number: 0,
-        settings: PROFILES[profile - 1],
+        settings: Settings {
+            limit: entry.limit,
+            credit: entry.credit,
+            tolerance: entry.tolerance,
+            absolute: entry.absolute,
+            floor: Settings::FLOOR,
+        },
     }
 }
