@@ -4,6 +4,7 @@ pub mod Table
 pub mod Nearest
 pub mod Ways
 pub mod Numbers
+pub mod Cases
 use mathlib.Core.Bool.{Bool, true, false, _||_}
 use mathlib.Core.List.{List, [], _∷_, _++_}
 use Prim.Native.Nat.{ℕ, _-_, _^_}
