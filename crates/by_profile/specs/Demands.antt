@@ -1,10 +1,10 @@
 -- What a call by a profile's number owes, as theorems: on every input, of whatever its promise allows it to report and to
 -- leave in what it was lent. By one of 1 to 4 it may answer just what the call with that profile's settings may
 -- (`as-settings`, `ordered-as-settings`), so that all demands on that call are demands on this one (svd's and order's
--- Demands). Then which number is refused when, and how many passes and rotations each profile allows. They lean on the
--- definition: `profiles`, `settingsBy`, `profileOutcome`, `profileOrdered` (method's Profiles), on the lists
--- `meaningsBy`, `orderedMeaningsBy` (Profiles.Numbers) and `passesMost`, `rotationsMost` (Profiles.Table). Assumes
--- nothing.
+-- Demands). Before it what these settings are, after it which number is refused when, and how many passes and rotations
+-- each profile allows. They lean on the definition: `profiles`, `settingsBy`, `profileOutcome`, `profileOrdered` (method's
+-- Profiles), on the lists `meaningsBy`, `orderedMeaningsBy` (Profiles.Numbers), on `SettingsNearest` (Profiles.Nearest)
+-- and on `passesMost`, `rotationsMost` (Profiles.Table). Assumes nothing.
 use mathlib.Core.Path.{_≡_, refl, sym, ap, _∙_}
 use mathlib.Core.Logic.{_↔_}
 use mathlib.Core.Bool.{Bool, true, false}
@@ -16,9 +16,9 @@ use lib.Ieee.{Float, binary64}
 use Rattle.method.specs.Work.{Work, work}
 use Rattle.method.specs.Settings as Method
 use Rattle.method.specs.Checks.{nowhere, Refusal}
-use Rattle.method.specs.Checks.First.{First, first-below}
+use Rattle.method.specs.Checks.First.{First, none-refused, first-below}
 use Rattle.method.specs.Checks.Readings.{FirstBad}
-use Rattle.method.specs.Checks.Table.{none-counted}
+use Rattle.method.specs.Checks.Table.{OverLimit, UnfitBounds, setting-tests, none-counted}
 use Rattle.method.specs.Report as Report
 use Rattle.method.specs.Report.{refused}
 use Rattle.method.specs.Outcome.{Outcome, outcomeOf, card, accepted}
@@ -26,12 +26,13 @@ use Rattle.method.specs.Ordered.{orderedOf, refusedAfter}
 use Rattle.method.specs.Ordered.Numbers.{afterMeanings}
 use Rattle.method.specs.Profiles.{noProfile, profileAt, Picked, picked, settingsIn, settingsBy, profileOutcome}
 use Rattle.method.specs.Profiles.{profilePlain, profileFull, profileOrdered, refusalBy, orderedChecksBy, orderedRefusalBy}
-use Rattle.method.specs.Profiles.Table.{there, picked-there, settings-there, passesMost, rotationsMost}
+use Rattle.method.specs.Profiles.Nearest.{SettingsNearest, settings-nearest}
+use Rattle.method.specs.Profiles.Table.{there, picked-there, settings-there, profile-passes, passesMost, rotationsMost}
 use Rattle.method.specs.Profiles.Ways as Ways
 use Rattle.method.specs.Profiles.Numbers.{meaningsBy, orderedMeaningsBy, refusal-told, numbers-by, place-by}
 use Rattle.method.specs.Profiles.Numbers.{ordered-numbers-by, ordered-place-by}
 use Rattle.checks.specs.declared.settings.Settings.{Settings}
-use Rattle.checks.specs.Values.{placeIn, refusalIn}
+use Rattle.checks.specs.Values.{settingsOf, placeIn, refusalIn}
 use Rattle.checks.specs.Answers.{fromSettings}
 use Rattle.profiles.specs.declared.Picked as Profiles
 use Rattle.profiles.specs.Values.{pickedIn}
@@ -83,6 +84,29 @@ picks-profile {k} {p} e low high = (
   ap (λ (x : Picked). x .number) (e ∙ picked-there binary64 k (there k .1 (low, high))),
   ap (λ (x : Picked). fromSettings (x .settings)) e,
 )
+
+-- The settings of profile k: limit and credit are the table's; tolerance, absolute and floor are the doubles nearest to
+-- its decimal numbers; and no call refuses them, by 6 or by 7.
+pub record Profiled (k : ℕ) : Type 0 where
+  pub limit : settingsFor k .limit ≡ profileAt k .limit
+  pub credit : settingsFor k .credit ≡ profileAt k .credit
+  pub nearest : SettingsNearest binary64 (profileAt k) (settingsOf (settingsFor k))
+  pub in-limits : ¬ OverLimit (settingsOf (settingsFor k))
+  pub bounds-fit : ¬ UnfitBounds (settingsOf (settingsFor k))
+
+pub profiled : (k : ℕ) → 1 ≤ k → k ≤ 4 → Profiled k
+unfolding settingsIn
+profiled k low high =
+    let n = there k .1 (low, high) in
+    let q = settings-there binary64 k n in
+    let none = none-refused (setting-tests (settingsBy binary64 k)) refl .0 (profile-passes binary64 k n) in
+    record {
+      limit = ap (λ (x : Method.Settings). x .limit) q;
+      credit = ap (λ (x : Method.Settings). x .credit) q;
+      nearest = settings-nearest binary64 k n;
+      in-limits = none .0;
+      bounds-fit = none .1 .0;
+    }
 
 module _ {kept : Bool} {rows cols k : ℕ} {w₀ : Work} {r : Report} {w : Work} (low : 1 ≤ k) (high : k ≤ 4) where
   -- by one of 1 to 4 it may answer just what the call with the profile's settings may, on every input
@@ -148,9 +172,9 @@ module _ (rows cols k : ℕ) (w₀ : Work) (l₀ : List Float) (r : Report) (w :
 -- ---- they hold of every answer
 
 -- a number has a profile, or it has none
-profiled : (k : ℕ) → (b : Bool) → noProfile k ≡ b → {A : Type 0} → (1 ≤ k → k ≤ 4 → A) → (noProfile k ≡ true → A) → A
-profiled k true e f g = g e
-profiled k false e f g = let n = there k .0 e in f (n .0) (n .1)
+either-way : (k : ℕ) → (b : Bool) → noProfile k ≡ b → {A : Type 0} → (1 ≤ k → k ≤ 4 → A) → (noProfile k ≡ true → A) → A
+either-way k true e f g = g e
+either-way k false e f g = let n = there k .0 e in f (n .0) (n .1)
 
 module _ {kept : Bool} {rows cols k : ℕ} {w₀ : Work} {r : Report} {w : Work} where
   pub refuses-by : AllowedBy kept rows cols k w₀ r w → RefusesBy kept rows cols k w₀ r w
@@ -165,7 +189,7 @@ module _ {kept : Bool} {rows cols k : ℕ} {w₀ : Work} {r : Report} {w : Work}
       record {
         number = λ j. rw number (numbers-by binary64 kept rows cols k w₀ j);
         profile =
-            λ e. profiled k (noProfile k) refl (λ low high. (low, high))
+            λ e. either-way k (noProfile k) refl (λ low high. (low, high))
             (λ n. absurd (Ways.none-some binary64 kept rows cols k w₀ n (sym number ∙ e)));
         bad-reading = at .eight;
         no-place = at .other;
@@ -179,21 +203,14 @@ module _ {kept : Bool} {rows cols k : ℕ} {w₀ : Work} {r : Report} {w : Work}
       AllowedBy kept rows cols k w₀ r w → r .refusal .number ≡ 0 →
       (r .tally .passes ≤ passesMost (card rows cols) (profileAt k))
       × (r .tally .rotations ≤ rotationsMost (card rows cols) (profileAt k))
-  unfolding settingsIn
   few-by a e =
       let n = refuses-by a .profile e in
       let d = demand-3 (as-settings (n .0) (n .1) .0 a) e in
+      let p = profiled k (n .0) (n .1) in
       let c = card rows cols in
-      let q = settings-there binary64 k (there k .1 n) in
-      let passes : r .tally .passes ≤ passesMost c (profileAt k) =
-      rw (limits q .0, limits q .1) at (d .most) in
+      let passes : r .tally .passes ≤ passesMost c (profileAt k) = rw (p .limit, p .credit) at (d .most) in
       (passes, le-trans (d .turns-few) (mul-le-mul-left (2 * (c - 1)) (le-trans (sweeps (d .each)) passes)))
     where
-      limits :
-          settingsBy binary64 k ≡ settingsIn binary64 (profileAt k) →
-          (settingsBy binary64 k .limit ≡ profileAt k .limit) × (settingsBy binary64 k .credit ≡ profileAt k .credit)
-      limits q = (ap (λ (x : Method.Settings). x .limit) q, ap (λ (x : Method.Settings). x .credit) q)
-
       sweeps : r .tally .passes ≡ r .tally .sweeps + r .tally .drops → r .tally .sweeps ≤ r .tally .passes
       sweeps g = omega arith
 
@@ -206,22 +223,22 @@ module _ {rows cols k : ℕ} {w₀ : Work} {l₀ : List Float} {r : Report} {w :
       record {
         number = λ j. rw number (ordered-numbers-by binary64 rows cols k w₀ l₀ j);
         profile =
-            λ e. profiled k (noProfile k) refl (λ low high. (low, high))
+            λ e. either-way k (noProfile k) refl (λ low high. (low, high))
             (λ n. absurd (Ways.ordered-none-some binary64 rows cols k w₀ l₀ n (sym (late n) ∙ e)));
         bad-reading = at .eight;
         no-place = at .other;
         none-bad = none-counted true rows cols (settingsBy binary64 k) w₀ at;
         alone =
             λ h low.
-            profiled k (noProfile k) refl (λ m n. refuses (ordered-as-settings m n .0 a) .alone h low)
+            either-way k (noProfile k) refl (λ m n. refuses (ordered-as-settings m n .0 a) .alone h low)
             (λ n. let q = Told.reportsOf (out n) in q ∙ ap refused (sym (ap (λ (x : Report.Report). x .refusal) q)));
         untouched =
             λ h low.
-            profiled k (noProfile k) refl (λ m n. refuses (ordered-as-settings m n .0 a) .untouched h low)
+            either-way k (noProfile k) refl (λ m n. refuses (ordered-as-settings m n .0 a) .untouched h low)
             (λ n. (Told.listsOf (out n), Told.valuesOf (out n)));
         after =
             λ high.
-            profiled k (noProfile k) refl (λ m n. refuses (ordered-as-settings m n .0 a) .after high)
+            either-way k (noProfile k) refl (λ m n. refuses (ordered-as-settings m n .0 a) .after high)
             (λ n. absurd (below (late n) (first-below 12 (orderedChecksBy rows cols k w₀ l₀) refl) high));
       }
     where
