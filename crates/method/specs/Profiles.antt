@@ -50,7 +50,7 @@ profiles =
     ∷ profile 50 25 (decimal 6) (decimal 8)
     ∷ []
 
--- all take the default floor
+-- all take the default floor, 1e-21
 abbrev pub floorOf : Fraction
 floorOf = decimal 21
 
@@ -89,7 +89,7 @@ pickedOf n s = record { number = n; settings = s }
 abbrev pub zeros : Settings
 zeros = record { limit = 0; credit = 0; tolerance = plusZero; absolute = plusZero; floor = plusZero }
 
--- profile k, and one without passes where there is none
+-- profile k; where there is none nothing goes by what it is
 abbrev pub profileAt : ℕ → Profile
 profileAt k = getD profiles (k - 1) (profile 0 0 (decimal 0) (decimal 0))
 
