@@ -239,14 +239,14 @@ pub extern "C" fn merotunki_profile(profile: usize) -> ProfileAnswer
     ensures { λ r. ⌜ pickedBy r ≡ picked binary64 profile ⌝ }
 {
     let picked = pick(profile);
-    let settings = picked.settings;
+    let own = picked.settings;
     ProfileAnswer {
         number: picked.number as u64,
-        limit: settings.limit as u64,
-        credit: settings.credit as u64,
-        tolerance: settings.tolerance,
-        absolute: settings.absolute,
-        floor: settings.floor,
+        limit: own.limit as u64,
+        credit: own.credit as u64,
+        tolerance: own.tolerance,
+        absolute: own.absolute,
+        floor: own.floor,
     }
 }
 
