@@ -1,7 +1,8 @@
--- The pattern that `root_bits` joins from half of the power and the root's digits is the pattern of `rooted`. Assumes nothing.
+-- The number and the power that `halve` gives are those of the definition, and the pattern that `root_bits` joins from
+-- the power and the rounded root is the pattern of `rooted`. Assumes nothing.
 use mathlib.Core.Path.{_≡_, sym, ap, _∙_, subst}
 use Prim.Native.Nat.{ℕ, suc, _+_, _-_, _*_, _/_, _%_, _^_, _≤_, _<_}
-use native.Mathlib.Nat.{le-trans, le-of-eq, lt-of-lt-of-le, lt-of-le-of-lt, mul-assoc, mul-pos, mul-le-mul-right, mul-div-cancel, pow-succ'}
+use native.Mathlib.Nat.{le-trans, le-of-eq, lt-of-lt-of-le, lt-of-le-of-lt, mul-assoc, mul-comm, mul-pos, mul-le-mul-right, mul-div-cancel, pow-succ'}
 use native.Mathlib.Omega.{arith}
 use lib.Dec.{T}
 use lib.Pow.{pow-pos, pow-mono, pow-add, shl-lt}
@@ -9,9 +10,12 @@ use lib.Ieee.{binary64, size, ofBits}
 use lib.Ieee.Bits.{ofBits-fits}
 use lib.Ieee.Digits.{size-lt, size-le}
 use lib.Ieee.Positive.{positive, first-pos, positive-of-value}
-use Rattle.method.specs.Root.{dropped, leading, count, square, wholeRoot, rooted}
-use Rattle.method.specs.Root.Whole.{IsRoot, whole-is, root-unique, four-pow}
-use Rattle.method.specs.Root.Written.{pow-lt-back, root-read}
+use Rattle.method.specs.Root.{dropped, count, square, rooted}
+use Rattle.method.specs.Root.Whole.{four-pow}
+use Rattle.method.specs.Root.Laws.{squareRoot-of}
+use Rattle.method.specs.Root.Written.{pow-lt-back}
+use Rattle.method.specs.Root.Paper.{Line, start, first, turns, rounded, halved}
+use Rattle.method.specs.Root.Page.{page-last, page-root}
 use Rattle.method.specs.Root.Patterns.{fieldCount, bits-val, bits-count}
 
 -- ---- what the code has of the square n: n is X * 2 ^ (2 * h + 52), where X has 53 or 54 digits
@@ -34,29 +38,25 @@ module _ (n X h : ℕ) (lo : 2 ^ 52 ≤ X) (hi : X < 2 ^ 54) (is : n ≡ X * 2 ^
       go : (z h : ℕ) → 104 + (h + h) < z → z ≤ 106 + (h + h) → (z + 1) / 2 - 53 ≡ h
       go z h a b = omega arith
 
-  four-n : 4 * n ≡ X * 2 ^ 54 * 4 ^ h
-  four-n =
-      ap (λ (z : ℕ). 4 * z) (is ∙ ap (λ (z : ℕ). X * z) (pow-add 2 (h + h) 52 ∙ ap (λ (z : ℕ). z * 2 ^ 52) (pow-add 2 h h)))
-      ∙ go X (2 ^ h * 2 ^ h)
-      ∙ ap (λ (z : ℕ). X * 2 ^ 54 * z) (sym (four-pow h))
-    where
-      go : (x d : ℕ) → 4 * (x * (d * 2 ^ 52)) ≡ x * 2 ^ 54 * d
-      go x d = omega arith
-
-  kept-is : (R : ℕ) → IsRoot (X * 2 ^ 54) R → leading binary64 n ≡ (R + 1) / 2
-  kept-is R r =
-      ap (λ (k : ℕ). (wholeRoot 54 (4 * n / 4 ^ k) + 1) / 2) dropped-is
-      ∙ ap (λ (z : ℕ). (wholeRoot 54 z + 1) / 2) (ap (λ (z : ℕ). z / 4 ^ h) four-n ∙ mul-div-cancel (X * 2 ^ 54) four-pos)
-      ∙ ap (λ (z : ℕ). (z + 1) / 2) (root-unique (X * 2 ^ 54) (wholeRoot 54 (X * 2 ^ 54)) R (whole-is 54 (X * 2 ^ 54) (small X hi)) r)
+  -- so the number and the power are those of the definition
+  number-is : n / (2 ^ 52 * 4 ^ dropped binary64 n) ≡ X
+  number-is =
+      ap (λ (z : ℕ). n / (2 ^ 52 * 4 ^ z)) dropped-is
+      ∙ ap (λ (z : ℕ). z / (2 ^ 52 * 4 ^ h)) unit
+      ∙ mul-div-cancel X (mul-pos (pow-pos 52) four-pos)
     where
       four-pos : 0 < 4 ^ h
       four-pos = subst (λ (z : ℕ). 0 < z) (sym (four-pow h)) (mul-pos (pow-pos h) (pow-pos h))
 
-      small : (x : ℕ) → x < 2 ^ 54 → x * 2 ^ 54 < 4 ^ 54
-      small x k = shl-lt 54 54 k
+      unit : n ≡ X * (2 ^ 52 * 4 ^ h)
+      unit =
+          is
+          ∙ ap (λ (z : ℕ). X * z)
+          (pow-add 2 (h + h) 52 ∙ mul-comm (2 ^ (h + h)) (2 ^ 52)
+          ∙ ap (λ (z : ℕ). 2 ^ 52 * z) (pow-add 2 h h ∙ sym (four-pow h)))
 
 -- ---- the value of a pattern between zero's and the infinity's
-count-some :
+pub count-some :
     (b d e : ℕ) → 0 < d → d * 2 ^ e ≡ count binary64 (ofBits binary64 b) * 2 ^ 1022 →
     0 < count binary64 (ofBits binary64 b)
 count-some b d e s v = first-pos (count binary64 (ofBits binary64 b)) (2 ^ 1022) (subst (λ (z : ℕ). 0 < z) v (mul-pos s (pow-pos e)))
@@ -85,14 +85,28 @@ once-even d e X x l = ap (λ (z : ℕ). d * 2 ^ z) (even-is e l) ∙ ap (λ (z :
     even-is e l = omega arith
 
 -- all together
-pub joined : (b d e X R r : ℕ) → b < 2047 * 2 ^ 52 → 0 < d → d * 2 ^ e ≡ count binary64 (ofBits binary64 b) * 2 ^ 1022
-    → 2 ^ 52 ≤ X → X < 2 ^ 54 → d * 2 ^ e ≡ X * 2 ^ (e / 2 + e / 2) → IsRoot (X * 2 ^ 54) R → r ≡ e / 2 * 2 ^ 52 + (R + 1) / 2
-    → ofBits binary64 r ≡ rooted binary64 (square binary64 (ofBits binary64 b))
-joined b d e X R r B D v lo hi x root is =
-    let y = ofBits binary64 b in
-    let h = e / 2 in
-    let c = count binary64 y in
-    let n : square binary64 y ≡ X * 2 ^ (h + h + 52) =
+pub halved-is :
+    (b d e X h : ℕ) → d * 2 ^ e ≡ count binary64 (ofBits binary64 b) * 2 ^ 1022 → 2 ^ 52 ≤ X → X < 2 ^ 54 →
+    d * 2 ^ e ≡ X * 2 ^ (h + h) →
+    start X h ≡ halved binary64 (ofBits binary64 b)
+halved-is b d e X h v lo hi x =
+    let c = count binary64 (ofBits binary64 b) in
+    let is : square binary64 (ofBits binary64 b) ≡ X * 2 ^ (h + h + 52) =
     ap (λ (z : ℕ). c * z) (pow-add 2 1022 52) ∙ sym (mul-assoc c (2 ^ 1022) (2 ^ 52)) ∙ ap (λ (z : ℕ). z * 2 ^ 52) (sym v ∙ x) ∙ mul-assoc X (2 ^ (h + h)) (2 ^ 52) ∙ ap (λ (z : ℕ). X * z) (sym (pow-add 2 (h + h) 52)) in
-    ap (λ (z : ℕ). ofBits binary64 z) (is ∙ ap (λ (z : ℕ). z * 2 ^ 52 + (R + 1) / 2) (sym (dropped-is (square binary64 y) X h lo hi n)) ∙ ap (λ (z : ℕ). dropped binary64 (square binary64 y) * 2 ^ 52 + z) (sym (kept-is (square binary64 y) X h lo hi n R root)))
-    ∙ root-read binary64 y (ofBits-fits binary64 b) (bits-positive b B (count-some b d e D v))
+    sym (both (number-is (square binary64 (ofBits binary64 b)) X h lo hi is) (dropped-is (square binary64 (ofBits binary64 b)) X h lo hi is))
+  where
+    both : {n n′ p p′ : ℕ} → n ≡ n′ → p ≡ p′ → start n p ≡ start n′ p′
+    both {n′ = n′} {p = p} e g = ap (λ (z : ℕ). start z p) e ∙ ap (λ (z : ℕ). start n′ z) g
+
+-- the page's last line, rounded, and the halved power are the root's pattern
+pub joined :
+    (b r : ℕ) → b < 2047 * 2 ^ 52 → 0 < count binary64 (ofBits binary64 b) →
+    r ≡ halved binary64 (ofBits binary64 b) .power * 2 ^ 52
+    + rounded (turns 54 (first 54 (halved binary64 (ofBits binary64 b) .number)) .root) →
+    ofBits binary64 r ≡ rooted binary64 (square binary64 (ofBits binary64 b))
+joined b r B some is =
+    let y = ofBits binary64 b in
+    let p = bits-positive b B some in
+    ap (λ (z : ℕ). ofBits binary64 z)
+    (is ∙ ap (λ (l : Line). halved binary64 y .power * 2 ^ 52 + rounded (l .root)) (sym (page-last binary64 y)))
+    ∙ sym (page-root binary64 y (ofBits-fits binary64 b) p) ∙ squareRoot-of binary64 y p

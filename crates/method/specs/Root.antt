@@ -11,6 +11,9 @@ pub mod Written
 pub mod Neighbours
 pub mod Enclosing
 pub mod Special
+pub mod Paper
+pub mod Turns
+pub mod Page
 use Prim.Native.Nat.{ℕ, zero, suc, _+_, _-_, _*_, _/_, _^_, _<_}
 use mathlib.Core.Bool.{true, false, cond}
 use lib.Dec.{T, leb}

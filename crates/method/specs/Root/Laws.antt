@@ -24,7 +24,7 @@ unfolding rooted
 rooted-is f n = refl
 
 -- twice the precision is within what the smallest value's exponent has
-wide : (f : Format) → 2 * prec f ≤ suc (low f)
+pub wide : (f : Format) → 2 * prec f ≤ suc (low f)
 wide binary32 = lit≤ tt
 wide binary64 = lit≤ tt
 
@@ -32,7 +32,7 @@ short : (f : Format) → suc (low f) ≤ low f + emax f
 short binary32 = lit≤ tt
 short binary64 = lit≤ tt
 
-size-gt : (n j : ℕ) → 2 ^ j ≤ n → j < size n
+pub size-gt : (n j : ℕ) → 2 ^ j ≤ n → j < size n
 size-gt n j h =
     elim (less-or-not j (size n))
     [ inl l ↦ l | inr l ↦ absurd (lt-irrefl n (lt-of-lt-of-le (size-lt n) (le-trans (pow-mono l) h))) ]
@@ -108,13 +108,13 @@ squareRoot-of f (fin false (suc m) e) p = refl
 
 -- what the laws above ask of the square of a positive value
 module _ (f : Format) (x : Float) (h : T (fits f x)) (p : T (positive x)) where
-  sh : Shape f (count f x)
+  pub sh : Shape f (count f x)
   sh = shape f x h (positive-finite x p)
 
-  square-least : 2 ^ low f ≤ square f x
+  pub square-least : 2 ^ low f ≤ square f x
   square-least = le-trans (le-of-eq (sym (one-mul (2 ^ low f)))) (mul-le-mul-right (2 ^ low f) (count-pos f x h p))
 
-  square-is : square f x ≡ sh .digits * 2 ^ (sh .power + low f)
+  pub square-is : square f x ≡ sh .digits * 2 ^ (sh .power + low f)
   square-is =
       ap (λ (z : ℕ). z * 2 ^ low f) (sh .is) ∙ mul-assoc (sh .digits) (2 ^ sh .power) (2 ^ low f)
       ∙ ap (λ (z : ℕ). sh .digits * z) (sym (pow-add 2 (sh .power) (low f)))

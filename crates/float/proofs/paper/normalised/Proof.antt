@@ -6,8 +6,8 @@ use native.Mathlib.Omega.{arith}
 use lib.Ieee.{binary64, ofBits}
 use Rattle.method.specs.Root.{count}
 use Rattle.float.proofs.Level.{Level, start-low, start-high, turn, power-pos, level-at}
-use Rattle.float.proofs.normalised.Statement.{statement}
-use Rattle.float.proofs.normalised.Tie as tie
+use Rattle.float.proofs.paper.normalised.Statement.{statement}
+use Rattle.float.proofs.paper.normalised.Tie as tie
 
 abbrev Inv-loop : tie.InvT-loop
 Inv-loop bits field digits₀ power₀ digits power = Level (count binary64 (ofBits binary64 bits)) digits power
