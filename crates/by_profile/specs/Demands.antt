@@ -187,10 +187,10 @@ module _ {kept : Bool} {rows cols k : ℕ} {w₀ : Work} {r : Report} {w : Work}
       ¬ (r .refusal .number ≡ 0) → outcomeOf (reportOf r) w ≡ outcomeOf (refused (refusalBy kept rows cols k w₀)) w₀ =
       λ h. a .promise ∙ Ways.refused-by binary64 kept rows cols k w₀ (λ z. h (number ∙ z)) in
       record {
-        number = λ j. rw number (numbers-by binary64 kept rows cols k w₀ j);
+        number = λ j. rw number (numbers-by kept rows cols k w₀ j);
         profile =
             λ e. either-way k (noProfile k) refl (λ low high. (low, high))
-            (λ n. absurd (Ways.none-some binary64 kept rows cols k w₀ n (sym number ∙ e)));
+            (λ n. absurd (Ways.none-some kept rows cols k w₀ n (sym number ∙ e)));
         bad-reading = at .eight;
         no-place = at .other;
         none-bad = none-counted kept rows cols (settingsBy binary64 k) w₀ at;
@@ -224,7 +224,7 @@ module _ {rows cols k : ℕ} {w₀ : Work} {l₀ : List Float} {r : Report} {w :
         number = λ j. rw number (ordered-numbers-by binary64 rows cols k w₀ l₀ j);
         profile =
             λ e. either-way k (noProfile k) refl (λ low high. (low, high))
-            (λ n. absurd (Ways.ordered-none-some binary64 rows cols k w₀ l₀ n (sym (late n) ∙ e)));
+            (λ n. absurd (Ways.ordered-none-some rows cols k w₀ l₀ n (sym (late n) ∙ e)));
         bad-reading = at .eight;
         no-place = at .other;
         none-bad = none-counted true rows cols (settingsBy binary64 k) w₀ at;
@@ -248,7 +248,7 @@ module _ {rows cols k : ℕ} {w₀ : Work} {l₀ : List Float} {r : Report} {w :
           ≡ orderedOf (outcomeOf (refused (orderedRefusalBy rows cols k w₀ l₀)) w₀) l₀
       out n =
           a .promise
-          ∙ Ways.ordered-refused-by binary64 rows cols k w₀ l₀ (Ways.ordered-none-some binary64 rows cols k w₀ l₀ n)
+          ∙ Ways.ordered-refused-by binary64 rows cols k w₀ l₀ (Ways.ordered-none-some rows cols k w₀ l₀ n)
 
       late : noProfile k ≡ true → r .refusal .number ≡ orderedRefusalBy rows cols k w₀ l₀ .number
       late n = ap (λ (x : Report.Report). x .refusal .number) (Told.reportsOf (out n))

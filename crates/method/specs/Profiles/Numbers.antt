@@ -47,6 +47,16 @@ profile-tests k = none-says k ⨾ done
 
 -- ---- the plain and the accumulating call
 
+module _ (kept : Bool) (rows cols k : ℕ) (w : Work) where
+  -- The number that a call answers is j exactly when j is the number of the first condition that holds, or when j is 0
+  -- and none holds.
+  pub numbers-by : (j : ℕ) → (refusalBy kept rows cols k w .number ≡ j) ↔ First j (meaningsBy kept rows cols k w)
+  numbers-by j =
+      first-means
+      (means-join (size-tests rows cols)
+      (means-join (length-tests kept rows cols w)
+      (means-join (profile-tests k) (reading-tests rows cols (w .matrix))))) j
+
 module _ (f : Format) (kept : Bool) (rows cols k : ℕ) (w : Work) where
   -- what a call reports as its refusal is the first that applies, always
   pub refusal-told : profileOutcome f kept rows cols k w .report .refusal ≡ refusalBy kept rows cols k w
@@ -61,15 +71,6 @@ module _ (f : Format) (kept : Bool) (rows cols k : ℕ) (w : Work) where
           (accepted-refusal f kept rows cols (settingsBy f k) w ∙ sym (first-clear (checksBy kept rows cols k w) refl e))
       go false t = rw (refused-by f kept rows cols k w (eqb-false (refusalBy kept rows cols k w .number) 0 t)) refl
 
-  -- The number that a call answers is j exactly when j is the number of the first condition that holds, or when j is 0
-  -- and none holds.
-  pub numbers-by : (j : ℕ) → (refusalBy kept rows cols k w .number ≡ j) ↔ First j (meaningsBy kept rows cols k w)
-  numbers-by j =
-      first-means
-      (means-join (size-tests rows cols)
-      (means-join (length-tests kept rows cols w)
-      (means-join (profile-tests k) (reading-tests rows cols (w .matrix))))) j
-
   -- a refusal by 8 carries the place of the first bad reading and how many there are, any other answer zeros
   pub place-by : TruePlace kept rows cols (settingsBy f k) w (refusalBy kept rows cols k w)
   place-by = go (noProfile k) refl
@@ -78,7 +79,7 @@ module _ (f : Format) (kept : Bool) (rows cols k : ℕ) (w : Work) where
       go false e = rw (refusal-as-settings f kept rows cols k w e) (true-place kept rows cols (settingsBy f k) w)
       go true e =
           let q = else-placeless _ (first-placeless 8 (tableChecks kept rows cols w) (omega arith) refl) in
-          rw (none-refusal f kept rows cols k w e) record { eight = λ z. absurd (q .1 z); other = λ h. q .0 }
+          rw (none-refusal kept rows cols k w e) record { eight = λ z. absurd (q .1 z); other = λ h. q .0 }
 
 -- ---- the ordered call
 
@@ -104,7 +105,7 @@ module _ (f : Format) (rows cols k : ℕ) (w : Work) (l : List Float) where
           (first-replaced (lentChecks rows cols w l) (settingChecks (settingsBy f k)) (profileChecks k)
           (readingChecks rows cols (w .matrix) ++ after) refl refl refl (profile-passes f k e) (ten-passes k e)))
       go true e =
-          let h = ordered-none-some f rows cols k w l e in
+          let h = ordered-none-some rows cols k w l e in
           rw (ordered-refused-by f rows cols k w l h)
           (ap (λ (r : Refusal). r .number) (first-here (orderedChecksBy rows cols k w l) after refl refl h))
 

@@ -67,6 +67,17 @@ else-placeless r h = go (eqb (r .number) 0) refl
 
 -- ---- the plain and the accumulating call
 
+module _ (kept : Bool) (rows cols k : ℕ) (w : Work) where
+  -- by any number but 1 to 4: refused for what is lent, or else by 10
+  pub none-refusal :
+      noProfile k ≡ true →
+      refusalBy kept rows cols k w ≡ orElse (firstOf (tableChecks kept rows cols w)) (refusal 10 nowhere)
+  none-refusal e = first-ten k (tableChecks kept rows cols w) (readingChecks rows cols (w .matrix)) refl e
+
+  -- which is a refusal
+  pub none-some : noProfile k ≡ true → ¬ (refusalBy kept rows cols k w .number ≡ 0)
+  none-some e = rw (none-refusal e) (else-some (firstOf (tableChecks kept rows cols w)))
+
 module _ (f : Format) (kept : Bool) (rows cols k : ℕ) (w : Work) where
   -- refused: all lists as they were
   pub refused-by :
@@ -112,24 +123,24 @@ module _ (f : Format) (kept : Bool) (rows cols k : ℕ) (w : Work) where
           ∙ ap (λ (r : Refusal). outcomeOf (refused r) w) q
           ∙ sym (refused-outcome f kept rows cols (settingsBy f k) w (λ z. h (n ∙ z)))
 
-  -- by any other number: refused for what is lent, or else by 10
-  pub none-refusal :
-      noProfile k ≡ true →
-      refusalBy kept rows cols k w ≡ orElse (firstOf (tableChecks kept rows cols w)) (refusal 10 nowhere)
-  none-refusal e = first-ten k (tableChecks kept rows cols w) (readingChecks rows cols (w .matrix)) refl e
-
-  -- which is a refusal
-  pub none-some : noProfile k ≡ true → ¬ (refusalBy kept rows cols k w .number ≡ 0)
-  none-some e = rw (none-refusal e) (else-some (firstOf (tableChecks kept rows cols w)))
-
   pub none-refused-by :
       noProfile k ≡ true →
       profileOutcome f kept rows cols k w
       ≡ outcomeOf (refused (orElse (firstOf (tableChecks kept rows cols w)) (refusal 10 nowhere))) w
   none-refused-by e =
-      refused-by (none-some e) ∙ ap (λ (r : Refusal). outcomeOf (refused r) w) (none-refusal e)
+      refused-by (none-some kept rows cols k w e)
+      ∙ ap (λ (r : Refusal). outcomeOf (refused r) w) (none-refusal kept rows cols k w e)
 
 -- ---- the ordered call, likewise
+
+module _ (rows cols k : ℕ) (w : Work) (l : List Float) where
+  pub ordered-none-refusal :
+      noProfile k ≡ true →
+      orderedRefusalBy rows cols k w l ≡ orElse (firstOf (lentChecks rows cols w l)) (refusal 10 nowhere)
+  ordered-none-refusal e = first-ten k (lentChecks rows cols w l) (readingChecks rows cols (w .matrix)) refl e
+
+  pub ordered-none-some : noProfile k ≡ true → ¬ (orderedRefusalBy rows cols k w l .number ≡ 0)
+  ordered-none-some e = rw (ordered-none-refusal e) (else-some (firstOf (lentChecks rows cols w l)))
 
 module _ (f : Format) (rows cols k : ℕ) (w : Work) (l : List Float) where
   pub ordered-refused-by :
@@ -172,18 +183,10 @@ module _ (f : Format) (rows cols k : ℕ) (w : Work) (l : List Float) where
           ∙ ap (λ (r : Refusal). orderedOf (outcomeOf (refused r) w) l) q
           ∙ sym (refused-before rows cols (settingsBy f k) w l f (λ z. h (n ∙ z)))
 
-  pub ordered-none-refusal :
-      noProfile k ≡ true →
-      orderedRefusalBy rows cols k w l ≡ orElse (firstOf (lentChecks rows cols w l)) (refusal 10 nowhere)
-  ordered-none-refusal e = first-ten k (lentChecks rows cols w l) (readingChecks rows cols (w .matrix)) refl e
-
-  pub ordered-none-some : noProfile k ≡ true → ¬ (orderedRefusalBy rows cols k w l .number ≡ 0)
-  ordered-none-some e = rw (ordered-none-refusal e) (else-some (firstOf (lentChecks rows cols w l)))
-
   pub ordered-none-refused :
       noProfile k ≡ true →
       profileOrdered f rows cols k w l
       ≡ orderedOf (outcomeOf (refused (orElse (firstOf (lentChecks rows cols w l)) (refusal 10 nowhere))) w) l
   ordered-none-refused e =
-      ordered-refused-by (ordered-none-some e)
-      ∙ ap (λ (r : Refusal). orderedOf (outcomeOf (refused r) w) l) (ordered-none-refusal e)
+      ordered-refused-by (ordered-none-some rows cols k w l e)
+      ∙ ap (λ (r : Refusal). orderedOf (outcomeOf (refused r) w) l) (ordered-none-refusal rows cols k w l e)
