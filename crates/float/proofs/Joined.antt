@@ -2,7 +2,7 @@
 -- the power and the rounded root is the pattern of `rooted`. Assumes nothing.
 use mathlib.Core.Path.{_≡_, sym, ap, _∙_, subst}
 use Prim.Native.Nat.{ℕ, suc, _+_, _-_, _*_, _/_, _%_, _^_, _≤_, _<_}
-use native.Mathlib.Nat.{le-trans, le-of-eq, lt-of-lt-of-le, lt-of-le-of-lt, mul-assoc, mul-comm, mul-pos, mul-le-mul-right, mul-div-cancel, pow-succ'}
+use native.Mathlib.Nat.{le-refl, le-trans, le-of-eq, lt-of-lt-of-le, lt-of-le-of-lt, mul-assoc, mul-comm, mul-pos, mul-le-mul-right, mul-div-cancel, pow-succ'}
 use native.Mathlib.Omega.{arith}
 use lib.Dec.{T}
 use lib.Pow.{pow-pos, pow-mono, pow-add, shl-lt}
@@ -108,5 +108,5 @@ joined b r B some is =
     let y = ofBits binary64 b in
     let p = bits-positive b B some in
     ap (λ (z : ℕ). ofBits binary64 z)
-    (is ∙ ap (λ (l : Line). halved binary64 y .power * 2 ^ 52 + rounded (l .root)) (sym (page-last binary64 y)))
+    (is ∙ ap (λ (l : Line). halved binary64 y .power * 2 ^ 52 + rounded (l .root)) (sym (page-last binary64 y 54 (le-refl 54))))
     ∙ sym (page-root binary64 y (ofBits-fits binary64 b) p) ∙ squareRoot-of binary64 y p

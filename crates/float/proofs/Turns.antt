@@ -45,9 +45,9 @@ pub turns-room :
     (turns k (first 54 x) .remainder < 2 ^ 63) × (turns k (first 54 x) .root + turns k (first 54 x) .bit < 2 ^ 63)
 turns-room x k h g =
     let l = turns k (first 54 x) in
-    let f : Found (x * (4 * 2 ^ 54)) (2 ^ 55) (54 - k) l =
-    turns-found (x * (4 * 2 ^ 54)) (2 ^ 55) k (54 - k) (first 54 x)
-    (subst (λ (z : ℕ). Found (x * (4 * 2 ^ 54)) (2 ^ 55) z (first 54 x)) (sym (all k g)) (first-found 54 x h)) in
+    let f : Found (4 * (x * 2 ^ 54)) (2 ^ 55) (54 - k) l =
+    turns-found (4 * (x * 2 ^ 54)) (2 ^ 55) k (54 - k) (first 54 x)
+    (subst (λ (z : ℕ). Found (4 * (x * 2 ^ 54)) (2 ^ 55) z (first 54 x)) (sym (all k g)) (first-found 54 x h)) in
     go (l .remainder) (l .root) (l .bit) (f .small) (f .room)
   where
     all : (k : ℕ) → k < 54 → k + (54 - k) ≡ 54

@@ -87,7 +87,7 @@ case (fin false (suc m) e) =
     some a d k = omega arith
 
 -- finite and above zero, as the laws of the root ask for it
-is-positive : (x : Float) → finite x ≡ true → lt plusZero x ≡ true → T (positive x)
+pub is-positive : (x : Float) → finite x ≡ true → lt plusZero x ≡ true → T (positive x)
 unfolding lt
 is-positive nan h l = absurd (true≢false (sym h))
 is-positive (inf s) h l = absurd (true≢false (sym h))

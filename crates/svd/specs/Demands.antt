@@ -12,9 +12,16 @@ use mathlib.Core.List.{List, []}
 use Prim.Native.Nat.{ℕ, _+_, _-_, _*_, _≤_, _<_}
 use native.Mathlib.Omega.{arith}
 use lib.ListN.{length}
-use lib.Ieee.{Float, binary64}
+use lib.Ieee.{Float, binary64, lt}
+use lib.Ieee.Scale.{finite}
 use Rattle.float.specs.Root.{AnF64, RootIs, root-is}
+use Rattle.float.specs.Values.{lineIn, startIn}
+use Rattle.float.specs.Page.{PageShows, page-shows}
+use Rattle.float.specs.declared.paper.Line.{Line}
+use Rattle.float.specs.declared.paper.Start.{Start}
+use Rattle.method.specs.Floats.{plusZero}
 use Rattle.method.specs.Root.{squareRoot}
+use Rattle.method.specs.Root.Paper.{rounded, halved, page}
 use Rattle.method.specs.Work.{Work, work, packed}
 use Rattle.method.specs.Walk.{Rules, State, start, going, run}
 use Rattle.method.specs.Walk.Applied.{applied}
@@ -116,7 +123,7 @@ module _ (kept : Bool) (rows cols : ℕ) (s : Settings) (w₀ : Work) (r : Repor
         outcomeOf (reportOf r) w ≡
         shownBy rows cols (run (rules kept rows cols s w₀) n 0 (s .limit) (first kept rows cols s w₀))
 
-  -- (and of the root: `demand-2-root` below)
+  -- (and of the root: `demand-2-root` and `demand-2-page` below)
 
   -- ---- 3. the report is true
 
@@ -214,6 +221,16 @@ module _ {kept : Bool} {rows cols : ℕ} {s : Settings} {w₀ : Work} {r : Repor
 -- zero and finite, r is nearest in whole numbers, and no other value is; elsewhere r is as `RootIs` says.
 pub demand-2-root : (x r : Float) → AnF64 x → r ≡ squareRoot binary64 x → RootIs x r
 demand-2-root = root-is
+
+-- The page of the root, of every f64 x above zero and finite and every answer that the promises of `halved`, `page`,
+-- `rounded` and `square_root` allow: what 54 turns find is rounded to the answer, and the number lies between the squares
+-- of the answer's two midpoints.
+pub demand-2-page :
+    (x r : Float) (many k : ℕ) (s : Start) (l : Line) → AnF64 x → finite x ≡ true → lt plusZero x ≡ true → 54 ≤ many →
+    startIn s ≡ halved binary64 x → lineIn l ≡ page binary64 x many → k ≡ rounded (l .root) →
+    r ≡ squareRoot binary64 x →
+    PageShows x r s l k
+demand-2-page = page-shows
 
 -- where a call tells number 0, the definition refuses nothing
 told-fine :

@@ -1,13 +1,15 @@
 -- The page of a positive value is for its root, in either format: the number and the power are exactly the value's, and
 -- what the last line's root is rounded to is what the format keeps of it. Assumes nothing.
-use mathlib.Core.Path.{_≡_, refl, sym, ap, _∙_, subst}
-use mathlib.Core.Bool.{Bool, true, false, cond}
+use mathlib.Core.Path.{_≡_, sym, ap, _∙_, subst}
+use mathlib.Core.Bool.{Bool, false, cond}
+use mathlib.Core.Logic.{_⊎_, inl, inr}
 use Prim.Native.Nat.{ℕ, zero, suc, _+_, _-_, _*_, _/_, _^_, _≤_, _<_}
-use native.Mathlib.Nat.{le-trans, le-of-eq, lt-of-lt-of-le, mul-assoc, mul-pos, mul-div-cancel, pow-succ'}
+use native.Mathlib.Nat.{le-refl, le-trans, le-of-eq, le-of-lt, eq-or-lt-of-le, lt-of-lt-of-le, mul-assoc, mul-pos, mul-div-cancel, pow-succ'}
 use native.Mathlib.Nat.{zero-mul, zero-lt-suc, div-lt-iff-lt-mul}
 use native.Mathlib.Omega.{arith}
 use lib.IntN.{ℤ}
-use lib.Dec.{T, leb, lt→ltb}
+use lib.Dec.{T, lt→ltb}
+use borrow.Author.Tests.{le-leb, lt-leb}
 use lib.Pow.{pow-pos, pow-mono, pow-add, shl-lt}
 use lib.Ieee.{Float, nan, inf, fin, Format, prec, low, hid, size, fits, ofBits}
 use lib.Ieee.Digits.{size-lt, size-le}
@@ -19,26 +21,34 @@ use Rattle.method.specs.Root.Grid.{double-hid}
 use Rattle.method.specs.Root.Counts.{count-zero}
 use Rattle.method.specs.Root.Laws.{squareRoot-of, wide, size-gt, sh, square-least, square-is}
 use Rattle.method.specs.Root.Written.{root-read}
-use Rattle.method.specs.Root.Paper.{Line, turns, first, rounded, places, halved, atMost, page}
-use Rattle.method.specs.Root.Turns.{rounded-is}
+use Rattle.method.specs.Root.Paper.{Line, turn, turns, first, rounded, places, halved, atMost, page}
+use Rattle.method.specs.Root.Turns.{Found, first-found, turns-found, rounded-is}
 
--- ---- the page at its end
+-- ---- the page's lines
 
-at-most-all : (k : ℕ) → atMost k k ≡ k
-at-most-all k = same (leb k k)
-  where
-    same : (b : Bool) → cond b k k ≡ k
-    same true = refl
-    same false = refl
+few-made : (most k : ℕ) → k ≤ most → atMost most k ≡ k
+few-made most k h = ap (λ (b : Bool). cond b k most) (le-leb k most h)
 
-page-is : (f : Format) (x : Float) (k : ℕ) → page f x k ≡ turns (atMost (places f) k) (first (places f) (halved f x .number))
+-- the first line, each line from the one before it, and the last line, which stays
+pub page-first : (f : Format) (x : Float) → page f x 0 ≡ first (places f) (halved f x .number)
+unfolding page turns
+page-first f x = ap (λ (k : ℕ). turns k (first (places f) (halved f x .number))) (few-made (places f) 0 (omega arith))
+
+pub page-turn : (f : Format) (x : Float) (k : ℕ) → k < places f → page f x (suc k) ≡ turn (page f x k)
+unfolding page turns
+page-turn f x k h =
+    ap (λ (j : ℕ). turns j (first (places f) (halved f x .number))) (few-made (places f) (suc k) h)
+    ∙ ap (λ (j : ℕ). turn (turns j (first (places f) (halved f x .number)))) (sym (few-made (places f) k (le-of-lt h)))
+
+pub page-last :
+    (f : Format) (x : Float) (k : ℕ) → places f ≤ k →
+    page f x k ≡ turns (places f) (first (places f) (halved f x .number))
 unfolding page
-page-is f x k = refl
-
-pub page-last : (f : Format) (x : Float) → page f x (places f) ≡ turns (places f) (first (places f) (halved f x .number))
-page-last f x =
-    page-is f x (places f)
-    ∙ ap (λ (k : ℕ). turns k (first (places f) (halved f x .number))) (at-most-all (places f))
+page-last f x k h = ap (λ (j : ℕ). turns j (first (places f) (halved f x .number))) (all (eq-or-lt-of-le h))
+  where
+    all : (places f ≡ k) ⊎ (places f < k) → atMost (places f) k ≡ places f
+    all (inl e) = subst (λ (j : ℕ). atMost (places f) j ≡ places f) e (few-made (places f) (places f) (le-refl (places f)))
+    all (inr l) = ap (λ (b : Bool). cond b k (places f)) (lt-leb k (places f) l)
 
 -- ---- the number and the power
 
@@ -124,7 +134,7 @@ module _ (f : Format) (x : Float) (h : T (fits f x)) (p : T (positive x)) where
   -- what is kept of the root is what the last line's root is rounded to
   pub page-leading : rounded (page f x (places f) .root) ≡ leading f (square f x)
   page-leading =
-      ap (λ (l : Line). rounded (l .root)) (page-last f x)
+      ap (λ (l : Line). rounded (l .root)) (page-last f x (places f) (le-refl (places f)))
       ∙ rounded-is (places f) (halved f x .number) number-small
       ∙ ap (λ (z : ℕ). (wholeRoot (places f) z + 1) / 2) (sym kept)
 
@@ -153,3 +163,19 @@ number-bound f (fin s zero e) h =
     none-small f (fin s zero e) (ap (λ (z : ℕ). z * 2 ^ low f) (count-zero f e) ∙ zero-mul (2 ^ low f))
 number-bound f (fin s (suc m) e) h =
     number-small f (fin false (suc m) e) (unsigned-fits f s m e h) (lt→ltb 0 (suc m) (zero-lt-suc m))
+
+-- every line is on the way to the root of number * 2 ^ (places + 2)
+pub page-found :
+    (f : Format) (x : Float) (k : ℕ) → T (fits f x) → k ≤ places f →
+    Found (4 * (halved f x .number * 2 ^ places f)) (2 ^ suc (places f)) (places f - k) (page f x k)
+unfolding page
+page-found f x k h g =
+    let n = halved f x .number in
+    let d = places f in
+    subst (λ (j : ℕ). Found (4 * (n * 2 ^ d)) (2 ^ suc d) (d - k) (turns j (first d n))) (sym (few-made d k g))
+    (turns-found (4 * (n * 2 ^ d)) (2 ^ suc d) k (d - k) (first d n)
+    (subst (λ (j : ℕ). Found (4 * (n * 2 ^ d)) (2 ^ suc d) j (first d n)) (sym (all d k g))
+    (first-found d n (number-bound f x h))))
+  where
+    all : (d k : ℕ) → k ≤ d → k + (d - k) ≡ d
+    all d k g = omega arith

@@ -25,7 +25,7 @@ pub record Found (n most j : ℕ) (l : Line) : Type 0 where
   pub small : l .remainder < l .root + l .bit
   pub room : l .root + l .bit + l .bit ≤ most
 
-pub first-found : (d x : ℕ) → x < 2 ^ d → Found (x * (4 * 2 ^ d)) (2 ^ suc d) d (first d x)
+pub first-found : (d x : ℕ) → x < 2 ^ d → Found (4 * (x * 2 ^ d)) (2 ^ suc d) d (first d x)
 first-found d x h =
     record {
       half = 0;
@@ -36,7 +36,7 @@ first-found d x h =
       room = most (2 ^ d) (2 ^ suc d) (pow-succ' 2 d);
     }
   where
-    go : (x b : ℕ) → 0 * 0 + 4 * b * x ≡ x * (4 * b)
+    go : (x b : ℕ) → 0 * 0 + 4 * b * x ≡ 4 * (x * b)
     go x b = omega arith
 
     all : (x b : ℕ) → x < b → x < 0 + b
@@ -169,14 +169,10 @@ last-is n most l f =
 pub last-found : (d x : ℕ) → x < 2 ^ d → Found (4 * (x * 2 ^ d)) (2 ^ suc d) 0 (turns d (first d x))
 last-found d x h =
     turns-found (4 * (x * 2 ^ d)) (2 ^ suc d) d 0 (first d x)
-    (subst (λ (z : ℕ). Found (4 * (x * 2 ^ d)) (2 ^ suc d) z (first d x)) (none d)
-    (subst (λ (z : ℕ). Found z (2 ^ suc d) d (first d x)) (four x (2 ^ d)) (first-found d x h)))
+    (subst (λ (z : ℕ). Found (4 * (x * 2 ^ d)) (2 ^ suc d) z (first d x)) (none d) (first-found d x h))
   where
     none : (d : ℕ) → d ≡ d + 0
     none d = omega arith
-
-    four : (x b : ℕ) → x * (4 * b) ≡ 4 * (x * b)
-    four x b = omega arith
 
 -- ---- the paper's root is the whole root
 pub paper-is : (d x : ℕ) → x < 2 ^ d → paperRoot d x ≡ wholeRoot d (x * 2 ^ d)
