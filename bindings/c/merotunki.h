@@ -56,7 +56,7 @@ extern "C" {
 
 /* The version of library and header, and the number of the layout of the structs below. The layout rises whenever a
  * struct changes, so that a program built for one is not run on another. */
-#define MEROTUNKI_VERSION "0.7.0"
+#define MEROTUNKI_VERSION "0.7.1"
 #define MEROTUNKI_LAYOUT 3
 
 /* The largest number of rows and of columns, and the largest limit and credit. */

@@ -14,6 +14,7 @@ pub mod Special
 pub mod Paper
 pub mod Turns
 pub mod Page
+pub mod Cases
 use Prim.Native.Nat.{ℕ, zero, suc, _+_, _-_, _*_, _/_, _^_, _<_}
 use mathlib.Core.Bool.{true, false, cond}
 use lib.Dec.{T, leb}
