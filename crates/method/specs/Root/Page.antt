@@ -5,7 +5,7 @@ use mathlib.Core.Bool.{Bool, false, cond}
 use mathlib.Core.Logic.{_⊎_, inl, inr}
 use Prim.Native.Nat.{ℕ, zero, suc, _+_, _-_, _*_, _/_, _^_, _≤_, _<_}
 use native.Mathlib.Nat.{le-refl, le-trans, le-of-eq, le-of-lt, eq-or-lt-of-le, lt-of-lt-of-le, mul-assoc, mul-pos, mul-div-cancel, pow-succ'}
-use native.Mathlib.Nat.{zero-mul, zero-lt-suc, div-lt-iff-lt-mul}
+use native.Mathlib.Nat.{zero-mul, zero-lt-suc, le-div-iff-mul-le, div-lt-iff-lt-mul}
 use native.Mathlib.Omega.{arith}
 use lib.IntN.{ℤ}
 use lib.Dec.{T, lt→ltb}
@@ -19,7 +19,7 @@ use Rattle.method.specs.Root.{square, dropped, leading, wholeRoot, squar
 use Rattle.method.specs.Root.Whole.{four-pow}
 use Rattle.method.specs.Root.Grid.{double-hid}
 use Rattle.method.specs.Root.Counts.{count-zero}
-use Rattle.method.specs.Root.Laws.{squareRoot-of, wide, size-gt, sh, square-least, square-is}
+use Rattle.method.specs.Root.Laws.{squareRoot-of, wide, size-gt, sh, square-least, square-is, square-rounding}
 use Rattle.method.specs.Root.Written.{root-read}
 use Rattle.method.specs.Root.Paper.{Line, turn, turns, first, rounded, places, halved, atMost, page}
 use Rattle.method.specs.Root.Turns.{Found, first-found, turns-found, rounded-is}
@@ -110,6 +110,18 @@ module _ (f : Format) (x : Float) (h : T (fits f x)) (p : T (positive x)) where
     where
       go : (z p : ℕ) → 2 ≤ p → z ≤ suc p + (p - 1 + ((z + 1) / 2 - p + ((z + 1) / 2 - p)))
       go z p c = omega arith
+
+  -- and no fewer than the format keeps
+  pub number-least : hid f ≤ halved f x .number
+  number-least =
+      le-div-iff-mul-le (unit-pos f k) .1
+      (le-trans (le-of-eq (go (hid f) (2 ^ k) (4 ^ k) (four-pow k))) (square-rounding f x h p .from))
+    where
+      go : (a b c : ℕ) → c ≡ b * b → a * (a * c) ≡ a * b * (a * b)
+      go a b c e = ap (λ (z : ℕ). a * (a * z)) e ∙ swapped a b
+        where
+          swapped : (a b : ℕ) → a * (a * (b * b)) ≡ a * b * (a * b)
+          swapped a b = omega arith
 
   -- ---- the result
   kept : 4 * n / 4 ^ k ≡ halved f x .number * 2 ^ places f
