@@ -12,7 +12,7 @@ ghost use Rattle.method.specs.Root.Paper.{rounded as roundedOf, halved as halve
 ghost use Rattle.float.specs.Values.{lineIn, startIn};
 
 // What remains, what was tried last, the root so far, and the bit that goes with them. The square of
-// the root and 4 * bit * remainder are together the number whose root is sought.
+// the root and 4 * bit * remainder are together number * 2^56, whose root is sought.
 pub struct Line {
     pub remainder: u64,
     pub trial: u64,
@@ -110,6 +110,12 @@ pub struct Start {
     pub power: u64,
 }
 
+// What a page starts with that has nothing to find.
+const NOTHING: Start = Start {
+    number: 0,
+    power: 0,
+};
+
 // The exponent is halved: where it is odd, one 2 stays with the number.
 fn halve(s: Scaled) -> Start
     requires { ⌜ (2 ^ 52 ≤ s .digits) × (s .digits < 2 ^ 53) × (s .power < 3068) ⌝ }
@@ -150,23 +156,14 @@ pub fn halved(x: f64) -> Start
     ensures { λ r. ⌜ startIn r ≡ halvedOf binary64 x ⌝ }
 {
     if x != x {
-        return Start {
-            number: 0,
-            power: 0,
-        };
+        return NOTHING;
     }
     let bits = (f64::to_bits(x) << 1) >> 1;
     if bits == 0 {
-        return Start {
-            number: 0,
-            power: 0,
-        };
+        return NOTHING;
     }
     if bits >= 0x7ff0_0000_0000_0000 {
-        return Start {
-            number: 0,
-            power: 0,
-        };
+        return NOTHING;
     }
     started(bits)
 }
