@@ -54,8 +54,8 @@ fn put_pattern(out: &mut [u8], at: usize, x: f64) -> usize {
     put(out, b, b"\n")
 }
 
-// What the page starts with. The power counts in smallest values, 2^-1074, and the root is sought of
-// 2^52 numbers: so the root is that of the number times 2 to the power less 1048.
+// What the page starts with. The root is that of number * 2^52, times 2^power smallest values of
+// 2^-1074 each: so it is that of the number, times 2^(power - 1048).
 fn put_start(out: &mut [u8], at: usize, start: Start) -> usize {
     let a = put(out, at, b"  x = ");
     let b = put_times(out, a, start.number, b" * ", start.power << 1, 2096);
@@ -125,7 +125,7 @@ fn put_rounding(out: &mut [u8], at: usize, root: u64, rounded: u64) -> usize {
     put(out, d, b"\n")
 }
 
-// The result: the rounded number times 2 to the power, in smallest values, and its pattern.
+// The result: the rounded number times 2^power smallest values of 2^-1074 each, and its pattern.
 fn put_result(out: &mut [u8], at: usize, rounded: u64, power: u64, x: f64) -> usize {
     let a = put(out, at, b"  root ");
     let b = put_times(out, a, rounded, b" * ", power, 1074);
@@ -142,12 +142,13 @@ fn put_midpoint(out: &mut [u8], at: usize, rounded: u64, words: &[u8], digits: [
     put(out, d, b"\n")
 }
 
-// The number in the same units; its line is filled up to the length of a midpoint's.
-fn put_number(out: &mut [u8], at: usize, number: u64, width: usize, digits: [u8; 40]) -> usize {
+// The number in the same units. A root has 16 digits, so with 21 columns for the number the line is as
+// long as a midpoint's up to the equals sign.
+fn put_number(out: &mut [u8], at: usize, number: u64, digits: [u8; 40]) -> usize {
     let a = put(out, at, b"    ");
     let b = put_decimal(out, a, number);
     let c = put(out, b, b" * 2^56");
-    let d = put_spaces(out, c, places(number), width);
+    let d = put_spaces(out, c, places(number), 21);
     let e = put(out, d, b" = ");
     let f = put_digits(out, e, digits);
     put(out, f, b"\n")
@@ -163,10 +164,13 @@ fn put_answer(out: &mut [u8], at: usize, words: &[u8], yes: bool) -> usize {
     }
 }
 
-// The lower midpoint, in quarters of the last place. A root of 2^52 is a power of two, and the double
-// before it is only half as far away. No root is 0, so nothing wraps.
+// 2^52. A root of so many last places is a power of two, and the double before it is only half as far
+// away as the one after it.
+const POWER_OF_TWO: u64 = 0x10_0000_0000_0000;
+
+// The lower midpoint, in quarters of the last place. A root has 53 binary digits: nothing wraps.
 fn lower(rounded: u64) -> u64 {
-    if rounded == 0x10_0000_0000_0000 {
+    if rounded == POWER_OF_TWO {
         std::num::wrapping_sub_u64(rounded << 2, 1)
     } else {
         std::num::wrapping_sub_u64(rounded << 2, 2)
@@ -174,7 +178,7 @@ fn lower(rounded: u64) -> u64 {
 }
 
 fn put_lower(out: &mut [u8], at: usize, rounded: u64, digits: [u8; 40]) -> usize {
-    if rounded == 0x10_0000_0000_0000 {
+    if rounded == POWER_OF_TWO {
         put_midpoint(out, at, rounded, b" - 1)^2 = ", digits)
     } else {
         put_midpoint(out, at, rounded, b" - 2)^2 = ", digits)
@@ -188,7 +192,7 @@ fn put_nearest(out: &mut [u8], at: usize, number: u64, rounded: u64) -> usize {
     let third = square(std::num::wrapping_add_u64(rounded << 2, 2));
     let a = put(out, at, b"  nearest, in quarters of the last place:\n");
     let b = put_lower(out, a, rounded, first);
-    let c = put_number(out, b, number, 21, second);
+    let c = put_number(out, b, number, second);
     let d = put_midpoint(out, c, rounded, b" + 2)^2 = ", third);
     let e = put_answer(
         out,
@@ -228,16 +232,14 @@ pub(crate) fn put_page(out: &mut [u8], at: usize, x: f64) -> usize {
     let a = put(out, at, b"  ");
     let b = put_pattern(out, a, x);
     if x != x {
-        return put_other(out, b, b"  no number: the root is NaN, ", x);
+        put_other(out, b, b"  no number: the root is NaN, ", x)
+    } else if x == 0.0 {
+        put_other(out, b, b"  a zero: the root is itself, ", x)
+    } else if x < 0.0 {
+        put_other(out, b, b"  below zero: the root is NaN, ", x)
+    } else if float::is_finite(x) {
+        put_root(out, b, x)
+    } else {
+        put_other(out, b, b"  infinite: the root is itself, ", x)
     }
-    if x == 0.0 {
-        return put_other(out, b, b"  a zero: the root is itself, ", x);
-    }
-    if x < 0.0 {
-        return put_other(out, b, b"  below zero: the root is NaN, ", x);
-    }
-    if !float::is_finite(x) {
-        return put_other(out, b, b"  infinite: the root is itself, ", x);
-    }
-    put_root(out, b, x)
 }
