@@ -1,7 +1,7 @@
 // Prints the square root of each number of its standard input as it is found on paper: every turn,
 // the rounding, the result, and the two comparisons that show it nearest. A line of the input is one
-// number, which `reading` tells; a line that is none gets one line of output that says so. Where the
-// input cannot be read, or has no room, nothing is printed; what failed is said on standard error.
+// number, which `reading` tells; a line that is none gets one line of output that says so. An input that
+// has no room, and an output that cannot be written, are told on standard error.
 mod digits;
 mod page;
 mod reading;
@@ -17,34 +17,11 @@ use libc::STDOUT_FILENO;
 use text::writing::put;
 use text::writing::put_decimal;
 
-// What was read: how many bytes, which are all of the input or fill the room for them.
-enum Input {
-    Read(usize),
-    Failed,
-}
-
 // Room for one page.
 fn blank() -> [u8; 8192]
     ensures { λ r. ⌜ 8192 ≡ length r ⌝ }
 {
     [0; 8192]
-}
-
-// Reads until text is full, the input ends or a read fails.
-fn read_input(text: &mut [u8]) -> Input {
-    let mut n = 0;
-    while n < text.len() {
-        let got = libc::read(STDIN_FILENO, &mut text[n..]);
-        let more = io::count(got, &text[n..]);
-        if more == 0 {
-            if got < 0 {
-                return Input::Failed;
-            }
-            return Input::Read(n);
-        }
-        n += more;
-    }
-    Input::Read(n)
 }
 
 // Writes the first `end` bytes of out. False where that fails, or where they had no room.
@@ -116,16 +93,10 @@ fn fail(words: &[u8]) {
 
 fn main() {
     let mut text = io::large_buffer();
-    match read_input(&mut text) {
-        Input::Read(n) => {
-            if n >= text.len() {
-                fail(b"paper: the input is too long: at most 65535 bytes are read\n");
-            } else if !print_lines(&text[0..n]) {
-                fail(b"paper: the output could not be written\n");
-            }
-        }
-        Input::Failed => {
-            fail(b"paper: the input could not be read\n");
-        }
+    let n = io::read_full(STDIN_FILENO, &mut text);
+    if n >= text.len() {
+        fail(b"paper: the input is too long: at most 65535 bytes are read\n");
+    } else if !print_lines(&text[0..n]) {
+        fail(b"paper: the output could not be written\n");
     }
 }
