@@ -13,7 +13,7 @@ use Rattle.method.specs.Root.{square, squareRoot}
 use Rattle.method.specs.Root.Paper as Paper
 use Rattle.method.specs.Root.Paper.{first, turn, turns, rounded, halved, page}
 use Rattle.method.specs.Root.Turns.{Found, midpoints}
-use Rattle.method.specs.Root.Page.{page-first, page-turn, page-last, page-found, page-root, number-exact, number-bound}
+use Rattle.method.specs.Root.Page.{page-first, page-turn, page-last, page-found, page-digits, page-root, number-exact, number-bound}
 use Rattle.float.specs.Values.{lineIn, startIn}
 use Rattle.float.specs.Root.{AnF64, f64-fits, is-positive}
 use Rattle.float.specs.declared.paper.Line.{Line}
@@ -59,8 +59,12 @@ line-turned x k l m h e g = g ∙ page-turn binary64 x k h ∙ ap turn (sym e)
 pub record PageShows (x r : Float) (s : Start) (l : Line) (k : ℕ) : Type 0 where
   -- the root of x is √(number * 2 ^ 52) * 2 ^ power smallest values
   pub start-is : square binary64 x ≡ s .number * (2 ^ 52 * 4 ^ s .power)
+  -- all 54 digits are found
+  pub last-line : LineIs (s .number) 54 l
   -- the answer is what was rounded, times the halved power
   pub result : r ≡ ofBits binary64 (s .power * 2 ^ 52 + k)
+  -- it has no more digits than a double keeps
+  pub few-digits : k < 2 ^ 53
   -- and the number lies between the squares of the midpoints, m and m + 4 in quarters of the last place
   pub between :
       (m : ℕ) → m + 2 ≡ 4 * k →
@@ -77,15 +81,19 @@ page-shows x r many k s l a h p g es el ek er =
     let n = halved binary64 x .number in
     let last : k ≡ rounded (turns 54 (first 54 n) .root) =
     ek ∙ ap (λ (m : Paper.Line). rounded (m .root)) (el ∙ page-last binary64 x many g) in
+    let kept : rounded (page binary64 x 54 .root) ≡ k =
+    ap (λ (m : Paper.Line). rounded (m .root)) (page-last binary64 x 54 (le-refl 54)) ∙ sym last in
     record {
       start-is =
           number-exact binary64 x held above ∙ ap (λ (t : Paper.Start). t .number * (2 ^ 52 * 4 ^ t .power)) (sym es);
+      last-line =
+          line-is x 54 s l a (le-refl 54) es
+          (el ∙ page-last binary64 x many g ∙ sym (page-last binary64 x 54 (le-refl 54)));
       result =
           er ∙ page-root binary64 x held above
           ∙ ap (λ (t : Paper.Start). ofBits binary64 (t .power * 2 ^ 52 + rounded (page binary64 x 54 .root))) (sym es)
-          ∙ ap (λ (z : ℕ). ofBits binary64 (s .power * 2 ^ 52 + z))
-          (sym
-          (last ∙ sym (ap (λ (m : Paper.Line). rounded (m .root)) (page-last binary64 x 54 (le-refl 54)))));
+          ∙ ap (λ (z : ℕ). ofBits binary64 (s .power * 2 ^ 52 + z)) kept;
+      few-digits = subst (λ (z : ℕ). z < 2 ^ 53) kept (page-digits binary64 x held above);
       between = λ m e.
           subst
           (λ (t : Paper.Start). (m * m < 4 * (t .number * 2 ^ 54)) × (4 * (t .number * 2 ^ 54) < (m + 4) * (m + 4)))

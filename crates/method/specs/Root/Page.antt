@@ -4,7 +4,7 @@ use mathlib.Core.Path.{_≡_, sym, ap, _∙_, subst}
 use mathlib.Core.Bool.{Bool, false, cond}
 use mathlib.Core.Logic.{_⊎_, inl, inr}
 use Prim.Native.Nat.{ℕ, zero, suc, _+_, _-_, _*_, _/_, _^_, _≤_, _<_}
-use native.Mathlib.Nat.{le-refl, le-trans, le-of-eq, le-of-lt, eq-or-lt-of-le, lt-of-lt-of-le, mul-assoc, mul-pos, mul-div-cancel, pow-succ'}
+use native.Mathlib.Nat.{le-refl, le-trans, le-of-eq, le-of-lt, eq-or-lt-of-le, lt-of-lt-of-le, lt-of-le-of-lt, mul-le-mul-right, mul-lt-mul-of-pos-right, mul-assoc, mul-pos, mul-div-cancel, pow-succ'}
 use native.Mathlib.Nat.{zero-mul, zero-lt-suc, le-div-iff-mul-le, div-lt-iff-lt-mul}
 use native.Mathlib.Omega.{arith}
 use lib.IntN.{ℤ}
@@ -16,7 +16,7 @@ use lib.Ieee.Digits.{size-lt, size-le}
 use lib.Ieee.Fits.{two}
 use lib.Ieee.Positive.{positive}
 use Rattle.method.specs.Root.{square, dropped, leading, wholeRoot, squareRoot}
-use Rattle.method.specs.Root.Whole.{four-pow}
+use Rattle.method.specs.Root.Whole.{sq-lt-back, whole-is, four-pow}
 use Rattle.method.specs.Root.Grid.{double-hid}
 use Rattle.method.specs.Root.Counts.{count-zero}
 use Rattle.method.specs.Root.Laws.{squareRoot-of, wide, size-gt, sh, square-least, square-is, square-rounding}
@@ -81,24 +81,31 @@ module _ (f : Format) (x : Float) (h : T (fits f x)) (p : T (positive x)) where
           p - 1 + ((z + 1) / 2 - p + ((z + 1) / 2 - p)) ≤ a
       go z p a l c d e g = omega arith
 
-  -- nothing is lost
-  pub number-exact : square f x ≡ halved f x .number * (hid f * 4 ^ dropped f (square f x))
-  number-exact =
+  -- the value's own digits, and how many places further up they stand
+  abbrev further : ℕ
+  further = sh f x h p .power + low f - (prec f - 1 + (k + k))
+
+  shifted : n ≡ sh f x h p .digits * 2 ^ further * (hid f * 4 ^ k)
+  shifted =
       let a = sh f x h p .power + low f in
       let s = prec f - 1 + (k + k) in
       let m = sh f x h p .digits in
-      let e : n ≡ m * 2 ^ (a - s) * (hid f * 4 ^ k) =
       square-is f x h p
       ∙ ap (λ (z : ℕ). m * 2 ^ z) (sym (back a s room))
       ∙ ap (λ (z : ℕ). m * z) (pow-add 2 (a - s) s)
       ∙ sym (mul-assoc m (2 ^ (a - s)) (2 ^ s))
-      ∙ ap (λ (z : ℕ). m * 2 ^ (a - s) * z) (sym (unit-is f k)) in
-      e
-      ∙ ap (λ (z : ℕ). z * (hid f * 4 ^ k))
-      (sym (ap (λ (z : ℕ). z / (hid f * 4 ^ k)) e ∙ mul-div-cancel (m * 2 ^ (a - s)) (unit-pos f k)))
+      ∙ ap (λ (z : ℕ). m * 2 ^ (a - s) * z) (sym (unit-is f k))
     where
       back : (a s : ℕ) → s ≤ a → a - s + s ≡ a
       back a s g = omega arith
+
+  number-digits : halved f x .number ≡ sh f x h p .digits * 2 ^ further
+  number-digits =
+      ap (λ (z : ℕ). z / (hid f * 4 ^ k)) shifted ∙ mul-div-cancel (sh f x h p .digits * 2 ^ further) (unit-pos f k)
+
+  -- nothing is lost
+  pub number-exact : square f x ≡ halved f x .number * (hid f * 4 ^ dropped f (square f x))
+  number-exact = shifted ∙ ap (λ (z : ℕ). z * (hid f * 4 ^ k)) (sym number-digits)
 
   -- the number has no more digits than are found
   pub number-small : halved f x .number < 2 ^ places f
@@ -122,6 +129,30 @@ module _ (f : Format) (x : Float) (h : T (fits f x)) (p : T (positive x)) where
         where
           swapped : (a b : ℕ) → a * (a * (b * b)) ≡ a * b * (a * b)
           swapped a b = omega arith
+
+  -- One of more digits than the format keeps is even: so it is 2 below the next power of two at the least.
+  pub number-most : halved f x .number + 2 ≤ 2 ^ places f
+  number-most =
+      subst (λ (z : ℕ). z + 2 ≤ 2 ^ places f) (sym number-digits)
+      (by further (subst (λ (z : ℕ). z < 2 ^ places f) number-digits number-small))
+    where
+      plain : (m q b : ℕ) → m < q → 2 ≤ q → b ≡ 2 * q → m * 1 + 2 ≤ b
+      plain m q b l g e = omega arith
+
+      even : (m z b q : ℕ) → m * (2 * z) < b → b ≡ 2 * q → m * (2 * z) + 2 ≤ b
+      even m z b q l e = omega arith
+
+      by : (j : ℕ) → sh f x h p .digits * 2 ^ j < 2 ^ places f → sh f x h p .digits * 2 ^ j + 2 ≤ 2 ^ places f
+      by zero l =
+          plain (sh f x h p .digits) (2 ^ prec f) (2 ^ places f) (sh f x h p .small)
+          (pow-mono {i = 1} {j = prec f} (one-le (prec f) (two f))) (pow-succ' 2 (prec f))
+        where
+          one-le : (q : ℕ) → 2 ≤ q → 1 ≤ q
+          one-le q g = omega arith
+      by (suc j) l =
+          subst (λ (z : ℕ). sh f x h p .digits * z + 2 ≤ 2 ^ places f) (sym (pow-succ' 2 j))
+          (even (sh f x h p .digits) (2 ^ j) (2 ^ places f) (2 ^ prec f)
+          (subst (λ (z : ℕ). sh f x h p .digits * z < 2 ^ places f) (pow-succ' 2 j) l) (pow-succ' 2 (prec f)))
 
   -- ---- the result
   kept : 4 * n / 4 ^ k ≡ halved f x .number * 2 ^ places f
@@ -149,6 +180,38 @@ module _ (f : Format) (x : Float) (h : T (fits f x)) (p : T (positive x)) where
       ap (λ (l : Line). rounded (l .root)) (page-last f x (places f) (le-refl (places f)))
       ∙ rounded-is (places f) (halved f x .number) number-small
       ∙ ap (λ (z : ℕ). (wholeRoot (places f) z + 1) / 2) (sym kept)
+
+  -- it has as many digits as the format keeps: rounding up never brings one more
+  pub page-digits : rounded (page f x (places f) .root) < 2 ^ prec f
+  page-digits =
+      subst (λ (z : ℕ). z < 2 ^ prec f)
+      (sym (ap (λ (l : Line). rounded (l .root)) (page-last f x (places f) (le-refl (places f)))
+      ∙ rounded-is (places f) (halved f x .number) number-small))
+      (half (wholeRoot (places f) (halved f x .number * 2 ^ places f)) (2 ^ places f) (2 ^ prec f)
+      (pow-succ' 2 (prec f))
+      (sq-lt-back (wholeRoot (places f) (halved f x .number * 2 ^ places f)) (2 ^ places f - 1)
+      (lt-of-le-of-lt
+      (whole-is (places f) (halved f x .number * 2 ^ places f)
+      (subst (λ (z : ℕ). halved f x .number * 2 ^ places f < z) (sym (four-pow (places f)))
+      (mul-lt-mul-of-pos-right number-small (pow-pos (places f)))) .0)
+      (under (halved f x .number) (2 ^ places f) number-most))))
+    where
+      half : (r b q : ℕ) → b ≡ 2 * q → r < b - 1 → (r + 1) / 2 < q
+      half r b q e l = omega arith
+
+      under : (m b : ℕ) → m + 2 ≤ b → m * b < (b - 1) * (b - 1)
+      under m b l = more m (b - 1) b (back b l) l
+        where
+          back : (b : ℕ) → m + 2 ≤ b → b ≡ b - 1 + 1
+          back b l = omega arith
+
+          close : (m c : ℕ) → (m + 2) * (c + 1) ≤ (c + 1) * (c + 1) → m * (c + 1) < c * c
+          close m c l = omega arith
+
+          more : (m c b : ℕ) → b ≡ c + 1 → m + 2 ≤ b → m * b < c * c
+          more m c b e l =
+              subst (λ (z : ℕ). m * z < c * c) (sym e)
+              (close m c (mul-le-mul-right (c + 1) (subst (λ (z : ℕ). m + 2 ≤ z) e l)))
 
   -- and with the halved power it is the root
   pub page-root : squareRoot f x ≡ ofBits f (halved f x .power * hid f + rounded (page f x (places f) .root))

@@ -3,7 +3,6 @@
 use mathlib.Core.Path.{_≡_, refl, _∙_}
 use Prim.Native.Nat.{ℕ, _*_, _/_, _%_, _^_}
 use native.Mathlib.Omega.{arith}
-use borrow.Author.Needs.{needs}
 use lib.Ieee.{Float, nan, binary64, toBits}
 use Rattle.method.specs.Nans.{at-nan, no-nan}
 use Rattle.method.specs.Root.Paper.{start, halved}
@@ -32,6 +31,9 @@ returns-3 c =
     let at-start = c .before .before .before in
     past-finite (at-start .args .x) (unsigned (at-start .args .x)) (held (at-start .args .x) (at-start .good .0 .1)) (omega arith) (omega (arith, c .if3 .taken))
 
+started-requires : tie.Need-started-requires
+started-requires c κs = (omega arith, omega (arith, c .if3 .left))
+
 returns-4 : tie.Need-returns-4
 returns-4 c =
     let at-start = c .before .before .before .before in
@@ -40,4 +42,4 @@ returns-4 c =
 
 pub halved-spec : {M : Type 1} → statement M
 halved-spec =
-    tie.close (tie.spec returns float-to-bits-bits returns-2 returns-3 (λ c κs. search needs) returns-4)
+    tie.close (tie.spec returns float-to-bits-bits returns-2 returns-3 started-requires returns-4)
