@@ -4,10 +4,8 @@ use mathlib.Core.Path.{_≡_, refl, sym, ap, subst}
 use mathlib.Core.Bool.{Bool, true, false, cond}
 use Prim.Native.Nat.{ℕ, suc, _+_, _-_, _*_, _/_, _^_, _≤_, _<_}
 use native.Mathlib.Omega.{arith}
-use lib.Dec.{leb}
 use borrow.Author.Tests.{le-leb, lt-leb}
-use lib.Ieee.{Float, binary64}
-use Rattle.method.specs.Root.Paper.{Line, line, first, turn, turns, rounded, halved, page}
+use Rattle.method.specs.Root.Paper.{Line, line, first, turn, turns, rounded}
 use Rattle.method.specs.Root.Turns.{Found, first-found, turns-found, last-found}
 
 -- ---- a turn
@@ -61,14 +59,3 @@ last-room x h = go (turns 54 (first 54 x) .root) (turns 54 (first 54 x) .bit) (l
   where
     go : (r b : ℕ) → r + b + b ≤ 2 ^ 55 → (r + 2) / 4 ≤ 2 ^ 53
     go r b m = omega arith
-
--- ---- the page
-pub page-all : (x : Float) (k : ℕ) → k ≤ 54 → turns k (first 54 (halved binary64 x .number)) ≡ page binary64 x k
-unfolding page
-page-all x k h =
-    ap (λ (z : ℕ). turns z (first 54 (halved binary64 x .number))) (sym (by-test (leb k 54) true k 54 (le-leb k 54 h)))
-
-pub page-past : (x : Float) (k : ℕ) → 54 < k → turns 54 (first 54 (halved binary64 x .number)) ≡ page binary64 x k
-unfolding page
-page-past x k h =
-    ap (λ (z : ℕ). turns z (first 54 (halved binary64 x .number))) (sym (by-test (leb k 54) false k 54 (lt-leb k 54 h)))

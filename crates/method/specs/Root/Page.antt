@@ -2,7 +2,7 @@
 -- what the last line's root is rounded to is what the format keeps of it. Assumes nothing.
 use mathlib.Core.Path.{_≡_, sym, ap, _∙_, subst}
 use mathlib.Core.Bool.{Bool, false, cond}
-use mathlib.Core.Logic.{_⊎_, inl, inr}
+use mathlib.Core.Logic.{inl, inr}
 use Prim.Native.Nat.{ℕ, zero, suc, _+_, _-_, _*_, _/_, _^_, _≤_, _<_}
 use native.Mathlib.Nat.{le-refl, le-trans, le-of-eq, le-of-lt, eq-or-lt-of-le, lt-of-lt-of-le, lt-of-le-of-lt, mul-le-mul-right, mul-lt-mul-of-pos-right, mul-assoc, mul-pos, mul-div-cancel, pow-succ'}
 use native.Mathlib.Nat.{zero-mul, zero-lt-suc, le-div-iff-mul-le, div-lt-iff-lt-mul}
@@ -21,34 +21,42 @@ use Rattle.method.specs.Root.Grid.{double-hid}
 use Rattle.method.specs.Root.Counts.{count-zero}
 use Rattle.method.specs.Root.Laws.{squareRoot-of, wide, size-gt, sh, square-least, square-is, square-rounding}
 use Rattle.method.specs.Root.Written.{root-read}
-use Rattle.method.specs.Root.Paper.{Line, turn, turns, first, rounded, places, halved, atMost, page}
+use Rattle.method.specs.Root.Paper.{Line, turn, turns, first, rounded, places, halved, page}
 use Rattle.method.specs.Root.Turns.{Found, first-found, turns-found, rounded-is}
 
 -- ---- the page's lines
 
-few-made : (most k : ℕ) → k ≤ most → atMost most k ≡ k
-few-made most k h = ap (λ (b : Bool). cond b k most) (le-leb k most h)
+-- as many turns are made as are asked for, up to the last
+pub page-all :
+    (f : Format) (x : Float) (k : ℕ) → k ≤ places f → page f x k ≡ turns k (first (places f) (halved f x .number))
+unfolding page
+page-all f x k h =
+    ap (λ (b : Bool). turns (cond b k (places f)) (first (places f) (halved f x .number))) (le-leb k (places f) h)
 
 -- the first line, each line from the one before it, and the last line, which stays
 pub page-first : (f : Format) (x : Float) → page f x 0 ≡ first (places f) (halved f x .number)
-unfolding page turns
-page-first f x = ap (λ (k : ℕ). turns k (first (places f) (halved f x .number))) (few-made (places f) 0 (omega arith))
+unfolding turns
+page-first f x = page-all f x 0 (omega arith)
 
 pub page-turn : (f : Format) (x : Float) (k : ℕ) → k < places f → page f x (suc k) ≡ turn (page f x k)
-unfolding page turns
-page-turn f x k h =
-    ap (λ (j : ℕ). turns j (first (places f) (halved f x .number))) (few-made (places f) (suc k) h)
-    ∙ ap (λ (j : ℕ). turn (turns j (first (places f) (halved f x .number)))) (sym (few-made (places f) k (le-of-lt h)))
+unfolding turns
+page-turn f x k h = page-all f x (suc k) h ∙ ap turn (sym (page-all f x k (le-of-lt h)))
 
 pub page-last :
     (f : Format) (x : Float) (k : ℕ) → places f ≤ k →
     page f x k ≡ turns (places f) (first (places f) (halved f x .number))
 unfolding page
-page-last f x k h = ap (λ (j : ℕ). turns j (first (places f) (halved f x .number))) (all (eq-or-lt-of-le h))
+page-last f x k h =
+    elim (eq-or-lt-of-le h) [
+      | inl e ↦ subst
+          (λ (j : ℕ). page f x j ≡ turns (places f) (first (places f) (halved f x .number))) e
+          (page-all f x (places f) (le-refl (places f)))
+      | inr l ↦ past l
+    ]
   where
-    all : (places f ≡ k) ⊎ (places f < k) → atMost (places f) k ≡ places f
-    all (inl e) = subst (λ (j : ℕ). atMost (places f) j ≡ places f) e (few-made (places f) (places f) (le-refl (places f)))
-    all (inr l) = ap (λ (b : Bool). cond b k (places f)) (lt-leb k (places f) l)
+    past : places f < k → page f x k ≡ turns (places f) (first (places f) (halved f x .number))
+    past l =
+        ap (λ (b : Bool). turns (cond b k (places f)) (first (places f) (halved f x .number))) (lt-leb k (places f) l)
 
 -- ---- the number and the power
 
@@ -243,11 +251,10 @@ number-bound f (fin s (suc m) e) h =
 pub page-found :
     (f : Format) (x : Float) (k : ℕ) → T (fits f x) → k ≤ places f →
     Found (4 * (halved f x .number * 2 ^ places f)) (2 ^ suc (places f)) (places f - k) (page f x k)
-unfolding page
 page-found f x k h g =
     let n = halved f x .number in
     let d = places f in
-    subst (λ (j : ℕ). Found (4 * (n * 2 ^ d)) (2 ^ suc d) (d - k) (turns j (first d n))) (sym (few-made d k g))
+    subst (λ (l : Line). Found (4 * (n * 2 ^ d)) (2 ^ suc d) (d - k) l) (sym (page-all f x k g))
     (turns-found (4 * (n * 2 ^ d)) (2 ^ suc d) k (d - k) (first d n)
     (subst (λ (j : ℕ). Found (4 * (n * 2 ^ d)) (2 ^ suc d) j (first d n)) (sym (all d k g))
     (first-found d n (number-bound f x h))))

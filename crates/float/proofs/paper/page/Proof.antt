@@ -2,13 +2,13 @@
 use mathlib.Core.Path.{sym, ap, _∙_, subst}
 use mathlib.Core.Logic.{⊎-elim}
 use Prim.Native.Nat.{ℕ, _≤_, _<_, _^_}
+use native.Mathlib.Nat.{le-of-lt}
 use native.Mathlib.Omega.{arith}
 use borrow.Author.Needs.{needs}
 use lib.Ieee.{binary64}
 use Rattle.method.specs.Root.Paper.{Start, first, turns, page, halved}
-use Rattle.method.specs.Root.Page.{number-bound}
+use Rattle.method.specs.Root.Page.{number-bound, page-all, page-last}
 use Rattle.float.proofs.Signs.{held}
-use Rattle.float.proofs.Turns.{page-all, page-past}
 use Rattle.float.proofs.paper.page.Statement.{statement}
 use Rattle.float.proofs.paper.page.Tie as tie
 
@@ -32,8 +32,8 @@ returns c =
     c .turns .ensures
     ∙ ap (λ (s : Start). turns (c .before .if1 .made) (first 54 (s .number))) (c .before .before .halved .ensures)
     ∙ ⊎-elim
-    (λ w. ap (λ (k : ℕ). turns k (first 54 (halved binary64 x .number))) (w .1) ∙ page-past x many (w .0 .taken))
-    (λ w. ap (λ (k : ℕ). turns k (first 54 (halved binary64 x .number))) (w .1) ∙ page-all x many (w .0 .left))
+    (λ w. ap (λ (k : ℕ). turns k (first 54 (halved binary64 x .number))) (w .1) ∙ sym (page-last binary64 x many (le-of-lt (w .0 .taken))))
+    (λ w. ap (λ (k : ℕ). turns k (first 54 (halved binary64 x .number))) (w .1) ∙ sym (page-all binary64 x many (w .0 .left)))
     (c .before .if1 .came)
 
 pub page-spec : {M : Type 1} → statement M
