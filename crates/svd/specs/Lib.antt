@@ -1,8 +1,5 @@
 -- The code's values as the method's.
 pub mod Values
-pub mod FlipStub
-pub mod Pairs
-pub mod Late
 pub mod Turns
 pub mod Passes
 pub mod Calls

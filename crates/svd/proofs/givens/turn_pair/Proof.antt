@@ -1,13 +1,13 @@
 -- `turn_pair` meets its contract: the two stores are `pair_turned`. Assumes nothing.
 use borrow.Author.Rules.{rules}
 use mathlib.Core.Path.{refl}
-use Rattle.svd.specs.Values.{rotation}
-use Rattle.svd.specs.Pairs.{pair_turned_lem}
+use Rattle.method.specs.Rotation.{pair_turned}
 use Rattle.svd.proofs.givens.turn_pair.Statement.{statement}
 use Rattle.svd.proofs.givens.turn_pair.Tie as tie
 
 returns : tie.Need-returns
-returns c = {! !}
+unfolding pair_turned
+returns c = refl
 
 pub turn-pair-spec : {M : Type 1} → statement M
-turn-pair-spec = tie.close (tie.spec {! !} returns)
+turn-pair-spec = tie.close (tie.spec (λ c. search rules) (λ c. search rules) (λ c. search rules) (λ c. search rules) (λ c. search rules) (λ c. search rules) (λ c. search rules) (λ c. search rules) (λ c. search rules) returns)
