@@ -1,7 +1,7 @@
 -- A test and what it says. Assumes nothing.
 use Rattle.std.specs.Prelude.{◌≡◌, refl, ◌↔◌, ◌⊎◌, Bool, true, false, not, ◌&&◌, ◌||◌, ℕ, ◌≤◌, ◌<◌, leb, ltb, eqb}
 use Rattle.std.proofs.Common.{sym, ◌∙◌, inl, inr, ⊎_elim, true≢false, arith, ltb-true, lt-ltb, leb-true, le-leb, eqb-true, eq-eqb}
-use Rattle.std.proofs.Math.Logic.{Iff·rfl}
+use mathlib.Core.Logic.Iff as Iff
 use Rattle.std.proofs.lemmas.Bool.{false≢true, eqb-false}
 
 -- the test is true exactly when A holds
@@ -26,7 +26,7 @@ same m n = (eqb-true m n, eq-eqb m n)
 
 -- a test says that it is true
 pub holds : (b : Bool) → Says b (b ≡ true)
-holds b = Iff·rfl
+holds b = Iff.rfl
 
 -- a negated test says that the test is false
 pub lacks : (b : Bool) → Says (not b) (b ≡ false)

@@ -43,10 +43,14 @@ null (fin s m e) z = eqb-true m 0 z
 pub null_is : (x : Float) → Null x → is_zero x ≡ true
 unfolding Null is_zero
 null_is (fin s m e) z = eq-eqb m 0 z
+null_is nan z = elim z [ ]
+null_is (inf _) z = elim z [ ]
 
 pub null_finite : (x : Float) → Null x → finite x ≡ true
 unfolding Null
 null_finite (fin s m e) z = refl
+null_finite nan z = elim z [ ]
+null_finite (inf _) z = elim z [ ]
 
 pub plus_null : Null plus_zero
 unfolding Null
@@ -55,6 +59,8 @@ plus_null = refl
 pub null_number : (x : Float) → Null x → T (not (is_nan x))
 unfolding Null is_nan
 null_number (fin s m e) z = tt
+null_number nan z = elim z [ ]
+null_number (inf _) z = elim z [ ]
 
 -- ---- sums, products, halves and roots
 
@@ -67,6 +73,8 @@ round_null f s num den h z =
   where
     of_value : (x : Float) → Nought x → HasValue x s num den → Null x
     of_value (fin t m e) n v = n
+    of_value nan n v = elim v [ ]
+    of_value (inf _) n v = elim n [ ]
 
 module _ (f : Format) where
   sum_null : (s t : Bool) (a b c : ℕ) → 0 < c → a ≡ 0 → b ≡ 0 → Null (sum f s a t b c)
@@ -85,10 +93,16 @@ module _ (f : Format) where
   add_null (fin s m e) (fin t n d) z w =
       sum_null s t _ _ _ (mul-pos (down_pos e) (down_pos d)) (rw (z, zero-mul, zero-mul) refl)
       (rw (w, zero-mul, zero-mul) refl)
+  add_null nan y z w = elim z [ ]
+  add_null (inf _) y z w = elim z [ ]
+  add_null (fin s m e) nan z w = elim w [ ]
+  add_null (fin s m e) (inf _) z w = elim w [ ]
 
   pub sub_null : (x y : Float) → Null x → Null y → Null (sub f x y)
   unfolding Null sub neg
   sub_null x (fin t n d) z w = add_null x (fin (not t) n d) z w
+  sub_null x nan z w = elim w [ ]
+  sub_null x (inf _) z w = elim w [ ]
 
   pub mul_left : (x y : Float) → Null x → finite y ≡ true → Null (mul f x y)
   unfolding Null mul
@@ -96,6 +110,8 @@ module _ (f : Format) where
   mul_left (fin s m e) (inf t) z h = absurd (false≢true h)
   mul_left (fin s m e) (fin t n d) z h =
       round_null f (unlike s t) _ _ (mul-pos (down_pos e) (down_pos d)) (rw (z, zero-mul, zero-mul) refl)
+  mul_left nan y z h = elim z [ ]
+  mul_left (inf _) y z h = elim z [ ]
 
   pub mul_right : (x y : Float) → finite x ≡ true → Null y → Null (mul f x y)
   unfolding Null mul
@@ -103,6 +119,8 @@ module _ (f : Format) where
   mul_right (inf s) y h z = absurd (false≢true h)
   mul_right (fin s m e) (fin t n d) h z =
       round_null f (unlike s t) _ _ (mul-pos (down_pos e) (down_pos d)) (rw (z, zero-mul, mul-zero) refl)
+  mul_right (fin s m e) nan h z = elim z [ ]
+  mul_right (fin s m e) (inf _) h z = elim z [ ]
 
   pub mul_null : (x y : Float) → Null x → Null y → Null (mul f x y)
   mul_null x y z w = mul_left x y z (null_finite y w)
@@ -112,21 +130,29 @@ module _ (f : Format) where
   half_null (fin s m e) z =
       round_null f (unlike s false) _ _ (mul-pos (mul-pos (zero-lt-suc 0) (up_pos (pos 1))) (down_pos e))
       (rw (z, zero-mul, zero-mul) refl)
+  half_null nan z = elim z [ ]
+  half_null (inf _) z = elim z [ ]
 
   root_null : (x : Float) → Null x → Null (square_root f x)
   unfolding Null square_root
   root_null (fin s zero e) z = refl
   root_null (fin s (suc m) e) z = absurd (omega arith)
+  root_null nan z = elim z [ ]
+  root_null (inf _) z = elim z [ ]
 
 -- ---- the helpers
 
 pub magnitude-null : (x : Float) → Null x → Null (magnitude x)
 unfolding Null magnitude
 magnitude-null (fin s m e) z = z
+magnitude-null nan z = elim z [ ]
+magnitude-null (inf _) z = elim z [ ]
 
 sign_finite : (x : Float) → Null x → finite (sign_of x) ≡ true
 unfolding Null sign_of
 sign_finite (fin s m e) z = refl
+sign_finite nan z = elim z [ ]
+sign_finite (inf _) z = elim z [ ]
 
 larger-null : (x y : Float) → Null x → Null y → Null (larger x y)
 larger-null x y z w = ⊎_elim (λ e. rw e z) (λ e. rw e w) (larger-either x y)
@@ -142,6 +168,8 @@ lt_null (fin true m e) (fin true n d) z =
 lt_null (fin true m e) (fin false n d) z =
     rw (z, zero-mul (up e), zero-mul (down d), zero-add)
     (rw (zero-mul (up e), zero-mul (down d)) at (zero_below (fin false 0 e) (fin false n d) refl))
+lt_null nan y z = elim z [ ]
+lt_null (inf _) y z = elim z [ ]
 
 -- the smaller of a zero and another is not above zero
 pub smaller-null : (x y : Float) → Null x → lt plus_zero (smaller x y) ≡ false

@@ -52,6 +52,7 @@ nought_is (fin s m e) z = inl (rw (z, zero-mul (up e), zero-mul (down e)) (go s)
     go : (s : Bool) → level s (0 * 1) false 0 ≡ true
     go true = refl
     go false = refl
+nought_is (inf _) z = elim z [ ]
 
 -- ---- rounding, products and sums
 
@@ -67,6 +68,8 @@ round_nought f s num den h z =
     of_value (fin t (suc m) e) v =
         let n : suc m * up e * den ≡ 0 = v.1 ∙ rw (z, zero-mul (down e)) refl in
         absurd (lt_irrefl 0 (subst (λ (y : ℕ). 0 < y) n (mul-pos (mul-pos (zero-lt-suc m) (up_pos e)) h)))
+    of_value nan v = elim v [ ]
+    of_value (inf _) v = elim v [ ]
 
 module _ (f : Format) where
   mul_left : (x y : Float) → Nought x → Nought (mul f x y)
@@ -76,6 +79,7 @@ module _ (f : Format) where
   mul_left (fin s m e) (inf t) z = rw z tt
   mul_left (fin s m e) (fin t n d) z =
       round_nought f (unlike s t) _ _ (mul-pos (down_pos e) (down_pos d)) (rw (z, zero-mul, zero-mul) refl)
+  mul_left (inf _) y z = elim z [ ]
 
   mul_right : (x y : Float) → Nought y → Nought (mul f x y)
   unfolding mul
@@ -85,6 +89,8 @@ module _ (f : Format) where
   mul_right (fin s m e) nan z = tt
   mul_right (fin s m e) (fin t n d) z =
       round_nought f (unlike s t) _ _ (mul-pos (down_pos e) (down_pos d)) (rw (z, zero-mul, mul-zero) refl)
+  mul_right (inf s) (inf _) z = elim z [ ]
+  mul_right (fin s m e) (inf _) z = elim z [ ]
 
   sum_nought :
       (s t : Bool) (a b c : ℕ) → 0 < c → a ≡ 0 → b ≡ 0 → Nought (sum f s a t b c)
@@ -106,11 +112,14 @@ module _ (f : Format) where
   add_nought (fin s m e) (fin t n d) z w =
       sum_nought s t _ _ _ (mul-pos (down_pos e) (down_pos d)) (rw (z, zero-mul, zero-mul) refl)
       (rw (w, zero-mul, zero-mul) refl)
+  add_nought (inf _) y z w = elim z [ ]
+  add_nought (fin s m e) (inf _) z w = elim w [ ]
 
 neg_nought : (x : Float) → Nought x → Nought (neg x)
 unfolding neg
 neg_nought nan z = tt
 neg_nought (fin s m e) z = z
+neg_nought (inf _) z = elim z [ ]
 
 sub_nought : (f : Format) (x y : Float) → Nought x → Nought y → Nought (sub f x y)
 unfolding sub

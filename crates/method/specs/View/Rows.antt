@@ -2,7 +2,7 @@
 use Rattle.std.specs.Prelude.{◌≡◌, ◌↔◌, Bool, ℕ, ◌*◌, ◌≤◌, ◌<◌, eqb, length, drop, Float}
 use Rattle.std.proofs.Math.Path.{refl}
 use Rattle.std.proofs.Common.{sym, ap, ◌∙◌, arith, length-drop, length-take-le}
-use Rattle.std.proofs.Math.Logic.{Iff·trans}
+use mathlib.Core.Logic.Iff as Iff
 use Rattle.std.proofs.Math.Bool.{true, false}
 use mathlib.Core.List.{List, []}
 use Rattle.method.specs.Floats.{pick}
@@ -30,7 +30,7 @@ module _ (rows cols : ℕ) (u v : List Float) (side k : ℕ) where
   -- the view's test is true exactly when all of these hold
   pub view_fit_lem : (view_fit rows cols u v side k ≡ true) ↔ ViewFit rows cols u v side k
   view_fit_lem =
-      Iff·trans
+      Iff.trans
       (both
       (both
       (both
