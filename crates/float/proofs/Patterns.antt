@@ -7,11 +7,11 @@ use lib.Ieee.{Float, nan, inf, fin, binary64, of_bits, to_bits, is_nan, ne, div}
 use lib.Ieee.Bits.{nan_bits_is, nan_bits_above}
 use Rattle.method.specs.Nans.{at-nan}
 
-is_nan : (x : Float) → is_nan x ≡ true → x ≡ nan
+is_nan_lem : (x : Float) → is_nan x ≡ true → x ≡ nan
 unfolding is_nan
-is_nan nan h = refl
-is_nan (inf s) h = cc
-is_nan (fin s m e) h = cc
+is_nan_lem nan h = refl
+is_nan_lem (inf s) h = cc
+is_nan_lem (fin s m e) h = cc
 
 pub zero_by_zero : div binary64 (of_bits binary64 0) (of_bits binary64 0) ≡ nan
 unfolding div of_bits
@@ -20,7 +20,7 @@ zero_by_zero = refl
 pub nan_read : (p : ℕ) → 0x7ff0_0000_0000_0000 < p % 0x8000_0000_0000_0000 → nan ≡ of_bits binary64 p
 nan_read p h =
     let above = nan_bits_above binary64 p ∙ lt-ltb 0x7ff0_0000_0000_0000 (p % 0x8000_0000_0000_0000) h in
-    sym (is_nan (of_bits binary64 p) (sym (nan_bits_is binary64 p) ∙ above))
+    sym (is_nan_lem (of_bits binary64 p) (sym (nan_bits_is binary64 p) ∙ above))
 
 pub nan_pattern : (x : Float) → ne x x ≡ true → 0x7ff8_0000_0000_0000 ≡ to_bits binary64 x
 unfolding to_bits

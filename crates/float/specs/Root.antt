@@ -52,12 +52,12 @@ pub data Case (x : Float) : Type 0 where
   is_above : finite x ≡ true → lt plus_zero x ≡ true → Case x
   is_zero : eq x plus_zero ≡ true → Case x
   is_below : lt x plus_zero ≡ true → Case x
-  is_nan : is_nan x ≡ true → Case x
+  is_no_number : is_nan x ≡ true → Case x
   is_infinity : x ≡ inf false → Case x
 
 pub case : (x : Float) → Case x
 unfolding is_nan eq lt
-case nan = is_nan refl
+case nan = is_no_number refl
 case (inf true) = is_below refl
 case (inf false) = is_infinity refl
 case (fin s zero e) =
