@@ -2,6 +2,8 @@
 // one after the other. Each promise is that of the call beneath it: nothing is asked of the caller
 // but that the pointers are good, what is unfit is refused by number, and a call that is refused before
 // its run writes nothing.
+#![tactic(auto)]
+
 ghost use Rattle.std.specs.Prelude.{◌≡◌, []};
 ghost use Rattle.std.specs.Float.{binary64};
 ghost use Rattle.method.specs.Root.{square_root};
@@ -34,7 +36,7 @@ use svd::report::Report;
 // a refusal before the run, 1 where the table settled, 2 where the walk stopped at its limit and 3
 // where what it left is quiet.
 #[repr(C)]
-#[derive(Drop)]
+#[derive(Clone, Copy)]
 pub struct Answer {
     pub number: u64,
     pub row: u64,
@@ -50,7 +52,7 @@ pub struct Answer {
 
 // Where a row lies in U or V: its first entry, and how many there are.
 #[repr(C)]
-#[derive(Drop)]
+#[derive(Clone, Copy)]
 pub struct Part {
     pub start: u64,
     pub length: u64,
@@ -58,7 +60,7 @@ pub struct Part {
 
 // The five settings.
 #[repr(C)]
-#[derive(Drop)]
+#[derive(Clone, Copy)]
 pub struct Choice {
     pub limit: u64,
     pub credit: u64,
@@ -69,7 +71,7 @@ pub struct Choice {
 
 // What a profile's number picks: 0 and its five settings, or 10 and zeros where there is no such profile.
 #[repr(C)]
-#[derive(Drop)]
+#[derive(Clone, Copy)]
 pub struct ProfileAnswer {
     pub number: u64,
     pub limit: u64,

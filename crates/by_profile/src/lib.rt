@@ -1,6 +1,8 @@
 // The calls by a profile's number, for an app whose surveyor picks the instrument. By one of 1 to 4 each
 // is the call with that profile's settings. By any other number it is refused: for what is lent, as that
 // call is, or else by 10, in the place of 6 and 7.
+#![tactic(auto)]
+
 ghost use Rattle.std.specs.Prelude.{◌≡◌, []};
 ghost use Rattle.std.specs.Float.{binary64};
 ghost use Rattle.method.specs.Work.{work};

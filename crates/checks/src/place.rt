@@ -8,7 +8,7 @@ use float::is_finite;
 
 // The station (row) and the pass (column) of the first reading that is infinite or NaN, from 0, and
 // how many such readings there are in all; zeros where there is none.
-#[derive(Drop)]
+#[derive(Clone, Copy)]
 pub struct Place {
     pub row: usize,
     pub column: usize,

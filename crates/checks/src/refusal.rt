@@ -18,7 +18,7 @@ use float::is_finite;
 const MOST_SIZE: usize = 48;
 
 // The number of a refusal, 0 where there is none; and the place that 8 carries, zeros with any other.
-#[derive(Drop)]
+#[derive(Clone, Copy)]
 pub struct Refusal {
     pub number: usize,
     pub place: Place,

@@ -6,7 +6,7 @@ ghost use Rattle.checks.specs.Values.{settings_of};
 // A call refuses a limit above 100,000 or a credit above 1,000 (number 6), and a tolerance or an
 // absolute bound that is not finite or is below zero, or a floor that is not finite or not above
 // zero (number 7).
-#[derive(Drop)]
+#[derive(Clone, Copy)]
 pub struct Settings {
     // How far the counter may rise: it rises by 1 a pass.
     pub limit: usize,

@@ -1,4 +1,6 @@
 // Whether what a walk left of a table is quiet: every coupling inside its live corner is +0 or -0.
+#![tactic(auto)]
+
 ghost use Rattle.std.specs.Prelude.{◌≡◌, get_or};
 ghost use Rattle.std.specs.Float.{nan};
 ghost use Rattle.method.specs.Floats.{is_zero};

@@ -1,5 +1,7 @@
 // The two factors U and V of the split: the fill with the identity and the view of one row. What is
 // public asks nothing of its caller.
+#![tactic(auto)]
+
 pub mod identity;
 pub mod view;
 

@@ -2,6 +2,8 @@
 // the square root. Each is the definition of its name in method, for every argument. Besides, whether
 // a float has its sign bit set and whether it is finite; and a float from and to its bit pattern, all
 // NaNs alike.
+#![tactic(auto)]
+
 pub mod paper;
 
 ghost use Rattle.std.specs.Prelude.{◌≡◌};

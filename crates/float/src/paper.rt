@@ -13,7 +13,7 @@ ghost use Rattle.float.specs.Values.{line_in, start_in};
 
 // What remains, what was tried last, the root so far, and the bit that goes with them. The square of
 // the root and 4 * bit * remainder are together number * 2^56, whose root is sought.
-#[derive(Drop)]
+#[derive(Clone, Copy)]
 pub struct Line {
     pub remainder: u64,
     pub trial: u64,
@@ -79,7 +79,7 @@ pub fn rounded(root: u64) -> u64
 }
 
 // A number of 53 binary digits, and the power of two that it is times.
-#[derive(Drop)]
+#[derive(Clone, Copy)]
 struct Scaled {
     digits: u64,
     power: u64,
@@ -107,7 +107,7 @@ fn normalised(bits: u64) -> Scaled
 
 // A number, and the power of two that its root is times: the root sought is that of number * 2^52,
 // times 2^power, in units of the smallest value.
-#[derive(Drop)]
+#[derive(Clone, Copy)]
 pub struct Start {
     pub number: u64,
     pub power: u64,

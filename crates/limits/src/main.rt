@@ -2,6 +2,8 @@
 // neighbouring numbers. Prints for each the report (number, place, word, passes, sweeps, drops,
 // range and rotations) and the entries of each list that are not +0, by place and bit pattern, as the call leaves
 // them. Beside's program `limits` says what it has to print.
+#![tactic(auto)]
+
 ghost use Rattle.std.specs.Prelude.{◌≡◌, length};
 
 use checks::settings::Settings;

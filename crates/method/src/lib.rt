@@ -1,1 +1,2 @@
 // The method as definitions and laws, all of them in specs/: there is no code here.
+#![tactic(auto)]

@@ -2,6 +2,8 @@
 // the rounding, the result, and the two comparisons that show it nearest. A line of the input is one
 // number, which `reading` tells; a line that is none gets one line of output that says so. An input that
 // has no room, and an output that cannot be written, are told on standard error.
+#![tactic(auto)]
+
 mod digits;
 mod page;
 mod reading;

@@ -5,7 +5,7 @@
 use text::fields::find;
 use text::numerals::{Number, pattern, worth};
 
-#[derive(Drop)]
+#[derive(Clone, Copy)]
 pub(crate) enum Reading {
     Double(f64),
     Empty,

@@ -1,4 +1,6 @@
 // One profile per instrument: the settings that a surveyor picks by the instrument's number.
+#![tactic(auto)]
+
 ghost use Rattle.std.specs.Prelude.{◌≡◌};
 ghost use Rattle.std.specs.Float.{binary64};
 ghost use Rattle.method.specs.Profiles.{no_profile, picked};
@@ -7,7 +9,7 @@ ghost use Rattle.profiles.specs.Values.{picked_in};
 use checks::settings::Settings;
 
 // What an instrument is given; the floor is the default one for all.
-#[derive(Drop)]
+#[derive(Clone, Copy)]
 struct Profile {
     limit: usize,
     credit: usize,
@@ -49,7 +51,7 @@ const PROFILES: [Profile; 4] = [
 
 // What a number picks: 0 and the settings of that profile, or 10 and settings of zeros where there is no
 // such profile.
-#[derive(Drop)]
+#[derive(Clone, Copy)]
 pub struct Picked {
     pub number: usize,
     pub settings: Settings,

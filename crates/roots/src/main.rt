@@ -1,6 +1,8 @@
 // Runs the float helpers on known answers: the rows of its standard input, made by tools/roots.py.
 // `row` says how a row is stored. Prints each row that differs and each that is wrong on purpose and
 // was not found, and how many it compared.
+#![tactic(auto)]
+
 mod row;
 
 ghost use Rattle.std.specs.Prelude.{◌≡◌, length};

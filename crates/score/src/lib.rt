@@ -1,9 +1,11 @@
 // What the programs that compare stored rows with the library count. A row is right and has to agree,
 // or it is wrong on purpose and has to be found: so a comparison that sees nothing shows.
+#![tactic(auto)]
+
 ghost use Rattle.std.specs.Prelude.{◌≡◌};
 ghost use Rattle.score.specs.Counts.{more as oneMore, none, counted};
 
-#[derive(Drop)]
+#[derive(Clone, Copy)]
 pub struct Score {
     // Rows that are right, and those of them that differ.
     pub right: u64,

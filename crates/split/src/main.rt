@@ -1,12 +1,14 @@
 // Reads a survey text from standard input and prints what `survey::split_input` says of it. Where
 // the input cannot be read, nothing is printed; what failed is said on standard error.
+#![tactic(auto)]
+
 ghost use Rattle.std.specs.Prelude.{◌≡◌, length};
 
 use libc::{STDERR_FILENO, STDIN_FILENO, STDOUT_FILENO};
 use survey::{ENOUGH, ROOM};
 
 // What was read: how many bytes, which are all of the input or fill the room for them.
-#[derive(Drop)]
+#[derive(Clone, Copy)]
 enum Input {
     Read(usize),
     Failed,

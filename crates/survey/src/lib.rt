@@ -1,4 +1,6 @@
 // The survey text, and what the program `split` prints of it.
+#![tactic(auto)]
+
 ghost use Rattle.std.specs.Prelude.{◌≡◌, [], ◌*◌, ◌≤◌, length, take};
 ghost use Rattle.std.specs.Float.{binary64};
 ghost use Rattle.method.specs.Work.{work};

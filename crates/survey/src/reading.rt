@@ -8,7 +8,7 @@ use text::fields::find;
 use text::numerals::{Number, pattern, whole};
 
 // A survey's line of the contents.
-#[derive(Drop)]
+#[derive(Clone, Copy)]
 pub(crate) struct Entry {
     pub(crate) id: u64,
     pub(crate) rows: usize,
@@ -16,7 +16,7 @@ pub(crate) struct Entry {
 }
 
 // Where reading goes on, and the number of the line there; or the number of the malformed line.
-#[derive(Drop)]
+#[derive(Clone, Copy)]
 pub(crate) struct Place {
     pub(crate) ok: bool,
     pub(crate) at: usize,
@@ -24,7 +24,7 @@ pub(crate) struct Place {
 }
 
 // The contents, and where the bodies begin; count 0 and the number of the malformed line.
-#[derive(Drop)]
+#[derive(Clone, Copy)]
 pub(crate) struct Head {
     pub(crate) es: [Entry; 8],
     pub(crate) count: usize,

@@ -6,7 +6,7 @@ ghost use Rattle.method.specs.Rotation.{rotation_of, pair_turned, rows_turned, c
 ghost use Rattle.svd.specs.Values.{rotation, Block};
 
 // Where a rotation takes its two numbers, with its cosine and sine.
-#[derive(Drop)]
+#[derive(Clone, Copy)]
 pub struct Rotation {
     pub radius: f64,
     pub cosine: f64,

@@ -2,6 +2,8 @@
 // functions beneath them, module by module under their own names. Settings and refusals are those
 // of `checks`. Only `interface`, `report` and `tally` are public, and what is public asks nothing of
 // its caller.
+#![tactic(auto)]
+
 mod bidiagonalization;
 mod bulge_chasing;
 mod givens;

@@ -32,7 +32,7 @@ fn saturating_sub(a: usize, b: usize) -> usize
 
 // Where the live corner stands: its interior, and the places of the coupling and of the last 2 x 2's
 // left entries.
-#[derive(Drop)]
+#[derive(Clone, Copy)]
 pub struct Corner {
     pub inter: usize,
     pub e1: usize,
@@ -81,7 +81,7 @@ impl Corner {
 }
 
 // The walk's record: what it counts, the counter that the limit bounds, and where the corner stands.
-#[derive(Drop)]
+#[derive(Clone, Copy)]
 pub struct Walk {
     pub tally: Tally,
     pub counter: usize,

@@ -15,7 +15,7 @@ use checks::refusal::Refusal;
 // None goes with a refusal. Settled: one entry of the diagonal is left, every coupling was found
 // negligible. Where more are left, the limit ran out: quiet where every coupling inside the live
 // corner is +0 or -0, and else stopped.
-#[derive(Drop)]
+#[derive(Clone, Copy)]
 pub enum Word {
     None,
     Settled,
@@ -39,7 +39,7 @@ impl Word {
 
 // The refusal, with number 0 where there is none; and of an accepted call the word and what the walk
 // counted, which are None and zeros in a refusal.
-#[derive(Drop)]
+#[derive(Clone, Copy)]
 pub struct Report {
     pub refusal: Refusal,
     pub word: Word,

@@ -6,7 +6,7 @@ ghost use Rattle.svd.specs.Values.{tally_of};
 
 // The range of the live corner, the passes made so far, each a sweep or a drop, and the rotations
 // that the sweeps computed.
-#[derive(Drop)]
+#[derive(Clone, Copy)]
 pub struct Tally {
     pub range: usize,
     pub passes: usize,

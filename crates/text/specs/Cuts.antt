@@ -1,5 +1,5 @@
 -- Laws of fields: what stands before the first `stop`, by the position that the code finds. Assumes nothing.
-use Rattle.std.specs.Prelude.{◌≡◌, Bool, [], ◌∷◌, ◌++◌, ltb, eqb, take}
+use Rattle.std.specs.Prelude.{◌≡◌, get_or, Bool, [], ◌∷◌, ◌++◌, ltb, eqb, take}
 use Rattle.std.proofs.Math.Path.{refl, ap}
 use Rattle.std.proofs.Common.{sym, ◌∙◌, arith, take_all}
 use Rattle.std.proofs.Math.Bool.{true, false}
@@ -8,9 +8,8 @@ use Prim.Native.Nat.{ℕ, suc, ◌+◌, ◌-◌, ◌<◌, ◌≤◌}
 use borrow.Author.Tests.{le-ltb, lt-ltb, le-leb, lt-leb, eq-eqb, ne_eqb, ltb-true, ltb-false, leb-true, leb-false}
 use Rattle.std.proofs.Math.Dec.{leb}
 use Rattle.std.proofs.Math.ListN.{length, drop, length-drop}
-use Rattle.std.proofs.Math.Seq.{drop-drop}
-use Rattle.bytes.specs.Bytes.{index_of, index_after, slice}
-use Rattle.text.specs.Text.{Bytes, ◌>>=◌, cut, found}
+use Rattle.std.proofs.Math.Seq.{drop-drop, drop-cons}
+use Rattle.text.specs.Text.{Bytes, ◌>>=◌, cut, found, index_of, index_after}
 use Rattle.text.specs.Code.{cut_at}
 use Rattle.text.specs.Options.{bind_some}
 
@@ -37,10 +36,25 @@ module _ (stop at : ℕ) (s : Bytes) where
   pub found-least : at ≤ length s → at ≤ found stop at s
   found-least h = omega (arith, found_inside h)
 
--- the kit's search up to the end is the search
-pub slice_all : (at : ℕ) (s : Bytes) → slice at (length s) s ≡ drop at s
-unfolding slice
+-- the search up to the end is the search
+pub slice_all : (at : ℕ) (s : Bytes) → drop at (take (length s) s) ≡ drop at s
 slice_all at s = rw (take_all (length s) s (omega arith))
+
+-- the search from the next byte on, where `stop` is not here
+pub found-next : (stop i : ℕ) (s : Bytes) → i < length s → ¬ (get_or s i 0 ≡ stop) →
+    i + index_of stop (drop i s) ≡ i + 1 + index_of stop (drop (i + 1) s)
+unfolding index_of index_after
+found-next stop i s h d =
+    let e : drop i s ≡ get_or s i 0 ∷ drop (suc i) s = drop-cons s i 0 h in
+    let n : i + 1 ≡ suc i = omega arith in
+    rw (e, index_of, ne_eqb (get_or s i 0) stop d, n) (omega arith)
+
+-- and where it is here
+pub found-here : (stop i : ℕ) (s : Bytes) → i < length s → get_or s i 0 ≡ stop → i + index_of stop (drop i s) ≡ i
+unfolding index_of index_after
+found-here stop i s h d =
+    let e : drop i s ≡ get_or s i 0 ∷ drop (suc i) s = drop-cons s i 0 h in
+    rw (e, index_of, eq-eqb (get_or s i 0) stop d) (omega arith)
 
 -- ---- the bytes before the first stop
 

@@ -3,7 +3,6 @@
 use Rattle.std.specs.Prelude.{◌≡◌, Bool, true, false, ◌&&◌, List, [], ◌∷◌, ◌++◌, ℕ, zero, suc, ◌+◌, ◌-◌, ◌*◌, ◌/◌, ◌%◌, ◌^◌, ltb, leb, eqb, length, drop}
 use Rattle.std.proofs.Math.Option.{Option, none, some}
 use Rattle.std.proofs.lemmas.List.Edits.{sets}
-use Rattle.bytes.specs.Bytes.{index_of}
 
 abbrev pub Bytes : Type 0
 Bytes = List ℕ
@@ -29,6 +28,16 @@ when false a = none
 unfoldable pub cut : ℕ → Bytes → Option (Bytes × Bytes)
 cut stop [] = none
 cut stop (b ∷ t) = elim (eqb b stop) [ true ↦ some ([], t) | false ↦ cut stop t >>= λ p. some (b ∷ p.0, p.1) ]
+
+-- one further than n, but 0 where the test holds
+unfoldable pub index_after : Bool → ℕ → ℕ
+index_after true n = 0
+index_after false n = suc n
+
+-- where the first byte `stop` stands; the length where there is none
+unfoldable pub index_of : ℕ → Bytes → ℕ
+index_of stop [] = 0
+index_of stop (b ∷ t) = index_after (eqb b stop) (index_of stop t)
 
 -- Where the first byte `stop` from `at` on stands; the length where there is none, and where `at` is past the end.
 unfoldable pub found : ℕ → ℕ → Bytes → ℕ

@@ -8,9 +8,10 @@ pub fn find(s: &[u8], at: usize, stop: u8) -> usize
     ensures { (result ≡ found stop at s.now) × (result ≤ length s.now) }
 {
     let n = s.len();
-    if at <= n {
-        bytes::scan::find(s, at, n, stop)
-    } else {
-        n
+    for i in at..n {
+        if s[i] == stop {
+            return i;
+        }
     }
+    n
 }

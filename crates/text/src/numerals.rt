@@ -5,7 +5,7 @@ ghost use Rattle.text.specs.Text.{digit as digitOf, places_by};
 ghost use Rattle.text.specs.Code.{number_of, or_zero};
 
 // What a numeral says.
-#[derive(Drop)]
+#[derive(Clone, Copy)]
 pub enum Number {
     Is(u64),
     Not,

@@ -3,6 +3,8 @@
 // line such as `= 000042 000052`, which has the sizes of both; `!` stands in place of `=` where they
 // are wrong on purpose. Prints the number of each right text that differs and of each wrong one that
 // was not found, and how many were compared.
+#![tactic(auto)]
+
 ghost use Rattle.std.specs.Prelude.{◌≡◌, ◌+◌, ◌≤◌, ◌<◌, length};
 
 use check::same;

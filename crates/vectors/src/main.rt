@@ -3,6 +3,8 @@
 // alike. `stored` says how a run is stored. Prints the number of each run that differs and of each
 // that is wrong on purpose and was not found, and a summary; a rest that is no run counts as one that
 // differs.
+#![tactic(auto)]
+
 mod bits;
 mod replay;
 mod stored;

@@ -17,7 +17,7 @@ use svd::report::Report;
 // agrees, what the accumulating call answered, or the plain one where that alone is made, and whether
 // the ordered call put values in order. A wrong run agrees where not as many of its calls differ as are
 // to.
-#[derive(Drop)]
+#[derive(Clone, Copy)]
 pub(crate) struct Made {
     pub(crate) wrong: bool,
     pub(crate) by: bool,
@@ -27,7 +27,7 @@ pub(crate) struct Made {
 }
 
 // What was seen where a run should be; what is malformed may be so on purpose.
-#[derive(Drop)]
+#[derive(Clone, Copy)]
 pub(crate) enum Seen {
     End,
     Malformed(bool),
@@ -35,7 +35,7 @@ pub(crate) enum Seen {
 }
 
 // What a call came to: whether all is as stored, and what it answered.
-#[derive(Drop)]
+#[derive(Clone, Copy)]
 struct Call {
     agrees: bool,
     report: Report,
@@ -43,7 +43,7 @@ struct Call {
 
 // What the calls of a run but the ordered one came to: the accumulating one, or the plain one where
 // that alone is made, and whether all is as stored of the plain one beside it.
-#[derive(Drop)]
+#[derive(Clone, Copy)]
 struct Both {
     first: Call,
     beside: bool,

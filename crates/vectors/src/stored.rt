@@ -22,7 +22,7 @@ use factors::identity::identity_flat;
 use svd::report::Report;
 
 // What is asked of the calls, and how long the lists are.
-#[derive(Drop)]
+#[derive(Clone, Copy)]
 pub(crate) struct Head {
     pub(crate) rows: usize,
     pub(crate) cols: usize,
@@ -44,7 +44,7 @@ pub(crate) struct Head {
 pub(crate) type Answer = [u8; 80];
 
 // What was found where a head should be.
-#[derive(Drop)]
+#[derive(Clone, Copy)]
 pub(crate) enum Found {
     End,
     Malformed,

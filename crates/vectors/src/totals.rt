@@ -3,7 +3,7 @@ use crate::replay::Made;
 use score::Score;
 use svd::report::{Report, Word};
 
-#[derive(Drop)]
+#[derive(Clone, Copy)]
 pub(crate) struct Totals {
     // Whether the input goes on.
     pub(crate) more: bool,

@@ -1,0 +1,8 @@
+-- `Refusal::by` meets its contract: the place is nowhere. Assumes nothing.
+use borrow.Author.Rules.{rules}
+use mathlib.Core.Path.{ap}
+use Rattle.method.specs.Checks.{refusal}
+use Rattle.checks.proofs.refusal.Refusal.by.Goals as goal
+
+pub returns : goal.returns
+returns c = ap (refusal _) c.nowhere.ensures

@@ -1,0 +1,21 @@
+-- `size_refusal` meets its contract: one check after the other, as the definition has them. Assumes nothing.
+use borrow.Author.Rules.{rules}
+use mathlib.Core.Path.{sym, ◌∙◌}
+use Rattle.method.specs.Checks.First.{first-hit, first-miss, first-none}
+use Rattle.checks.proofs.refusal.size_refusal.Goals as goal
+
+pub returns-then-no_size : goal.returns-then-no_size
+returns-then-no_size c = c.by.ensures ∙ sym (first-hit _ _ (sym c.no_size.ensures ∙ c.if-no_size.true))
+
+pub returns-then-too_large : goal.returns-then-too_large
+returns-then-too_large c =
+    c.by-then-too_large.ensures
+    ∙ sym (first-miss _ _ (sym c.no_size.ensures ∙ c.if-no_size.false)
+    ∙ first-hit _ _ (sym c.too_large.ensures ∙ c.if-too_large.true))
+
+pub returns : goal.returns
+returns c =
+    c.by-2.ensures
+    ∙ sym (first-miss _ _ (sym c.no_size.ensures ∙ c.if-no_size.false)
+    ∙ first-miss _ _ (sym c.too_large.ensures ∙ c.if-too_large.false)
+    ∙ first-none)

@@ -1,0 +1,77 @@
+-- `bad_readings` meets its contract: before entry (i, j) it has found what the definition has found. Assumes nothing.
+use borrow.Author.Rules.{rules}
+use Prim.Native.Nat.{ℕ, ◌+◌, ◌-◌, ◌*◌, ◌≤◌, zero-le}
+use mathlib.Core.Path.{◌≡◌, ap, ◌∙◌}
+use native.Mathlib.Omega.{arith}
+use native.Mathlib.Nat.{le_antisymm, mul-le-mul}
+use Rattle.method.specs.Settings.{most_size}
+use Rattle.method.specs.Work.{at}
+use Rattle.method.specs.Repeated.{repeated, repeated-none, repeated-more}
+use Rattle.method.specs.Checks.{Place, nowhere, looked, bad_readings}
+use Rattle.method.specs.Checks.Readings.{row_most, bad_most}
+use Rattle.method.specs.Index.{row_in}
+use Rattle.checks.specs.Values.{place_in}
+use Rattle.checks.proofs.search.bad_readings.Goals as goal
+
+-- row i, which a turn of the inner loop looks at, lies inside, and the whole has at most 48 x 48 readings
+row :
+    (c : goal.In-loop-j invariant-loop2 decreases-loop2 invariant-loop decreases-loop) →
+    let args = c.args in
+    (c.loop-i.i * args.cols + args.cols ≤ args.rows * args.cols)
+    × (args.rows * args.cols ≤ most_size * most_size)
+row c =
+    let c = c in
+    (
+      row_in c.loop-i.i c.args.rows c.args.cols (omega arith),
+      mul-le-mul c.requires.1 c.requires.2,
+    )
+
+pub loop-i-init : goal.loop-i-init
+unfolding bad_readings
+loop-i-init c = (omega arith, c.nowhere-found.ensures ∙ repeated-none 0 _ nowhere)
+
+pub loop-j-init : goal.loop-j-init
+loop-j-init c = (omega arith, repeated-none 0 _ _)
+
+pub overflow_mul-i : goal.overflow_mul-i
+overflow_mul-i c = record { fits = omega (arith, (row c).0, (row c).1) }
+
+pub overflow_add-i : goal.overflow_add-i
+overflow_add-i c = omega (arith, (row c).0, (row c).1)
+
+pub offset_bounds-b-i : goal.offset_bounds-b-i
+offset_bounds-b-i c = omega (arith, (row c).0)
+
+pub bounds-b-i : goal.bounds-b-i
+bounds-b-i c = omega (arith, (row c).0)
+
+-- fewer were counted than there are readings
+pub looked-found-requires : goal.looked-found-requires
+looked-found-requires c =
+    let args = c.args in
+    let bad : Place → ℕ = λ p. p.bad in
+    let rows = ap bad c.loop-i.invariant.1 in
+    let row-i = ap bad c.loop-j.invariant.1 in
+    omega (
+      arith,
+      (row c).0,
+      (row c).1,
+      rows,
+      bad_most args.cols c.loop-i.i args.cols args.b.now,
+      row-i,
+      row_most args.cols args.b.now c.loop-i.i c.loop-j.j (place_in c.loop-i.found),
+    )
+
+pub loop-j-preserved : goal.loop-j-preserved
+loop-j-preserved c =
+    (omega arith, c.looked-found.ensures ∙ repeated-more 0 _ _ _ _ zero-le c.loop-j.invariant.1)
+
+pub loop-i-preserved : goal.loop-i-preserved
+unfolding bad_readings
+loop-i-preserved c =
+    let e = le_antisymm c.loop-j.invariant.0 c.loop-j-test.false in
+    (omega arith, rw e at c.loop-j.invariant.1 ∙ repeated-more 0 _ _ _ _ zero-le c.loop-i.invariant.1)
+
+pub returns : goal.returns
+returns c =
+    rw (le_antisymm c.loop-i.invariant.0 c.loop-i-test.false) at c.loop-i.invariant.1

@@ -1,0 +1,48 @@
+-- `ones` meets its contract: after i turns the first i of the diagonal are 1. Assumes nothing.
+use borrow.Author.Rules.{rules}
+use Prim.Native.Nat.{◌+◌, ◌-◌, ◌*◌, ◌≤◌}
+use mathlib.Core.Path.{◌≡◌, refl, ap, ◌∙◌}
+use native.Mathlib.Omega.{arith}
+use native.Mathlib.Nat.{le_antisymm}
+use lib.ListN.{length, length-set, length-replicate, set}
+use Rattle.method.specs.Repeated.{repeated, repeated-none, repeated-next}
+use Rattle.method.specs.Fill.{identity}
+use Rattle.method.specs.Floats.{one, one-64, plus_zero}
+use Rattle.method.specs.Index.{row_in, few}
+use Rattle.factors.specs.View.{Room}
+use Rattle.factors.proofs.identity.ones.Goals as goal
+
+-- row i, which the turn writes to, lies inside
+row :
+    (c : goal.In-loop-i invariant-loop decreases-loop) → let n = c.args.n in
+    Room (c.loop-i.i * n) n (length c.loop-i.a)
+row c =
+    let n = c.args.n in
+    let whole : length c.loop-i.a ≡ n * n =
+    c.loop-i.invariant.1 ∙ ap length c.requires.1 ∙ length-replicate (n * n) plus_zero in
+    record {
+      inside = rw whole (row_in c.loop-i.i n n (omega arith));
+      few = rw whole (few n n (omega arith) (omega arith));
+    }
+
+pub loop-i-init : goal.loop-i-init
+loop-i-init c = (omega arith, refl, repeated-none 0 _ _)
+
+pub overflow_mul-at : goal.overflow_mul-at
+overflow_mul-at c = let room = row c in record { fits = omega arith }
+
+pub overflow_add-at : goal.overflow_add-at
+overflow_add-at c = let room = row c in omega arith
+
+pub offset_bounds-a-at : goal.offset_bounds-a-at
+offset_bounds-a-at c = let room = row c in omega arith
+
+pub bounds-a-at : goal.bounds-a-at
+bounds-a-at c = let room = row c in omega arith
+
+pub loop-i-preserved : goal.loop-i-preserved
+loop-i-preserved c = (omega arith, simp length-set (omega arith), rw (repeated-next, one-64) (cc))
+
+pub returns : goal.returns
+unfolding identity
+returns c = cc (le_antisymm c.loop-i.invariant.0 c.loop-i-test.false)

@@ -1,0 +1,19 @@
+-- `ones` meets its contract: after i turns the first i of the diagonal are 1. Assumes nothing.
+use borrow.Author.Rules.{rules}
+use Prim.Native.Nat.{◌+◌, ◌-◌, ◌*◌, ◌≤◌}
+use mathlib.Core.Path.{◌≡◌, refl, ap, ◌∙◌}
+use native.Mathlib.Omega.{arith}
+use native.Mathlib.Nat.{le_antisymm}
+use lib.ListN.{length, length-set, length-replicate, set}
+use Rattle.method.specs.Repeated.{repeated, repeated-none, repeated-next}
+use Rattle.method.specs.Fill.{identity}
+use Rattle.method.specs.Floats.{one, one-64, plus_zero}
+use Rattle.method.specs.Index.{row_in, few}
+use Rattle.factors.specs.View.{Room}
+use Rattle.factors.proofs.identity.ones.Given as goal
+
+abbrev pub invariant-loop-i : goal.invariant-loop-i
+invariant-loop-i l = (l.i ≤ l.n) × (length l.a ≡ length l.initial.a) × (l.a ≡ repeated 0 l.i (λ k l. set l (k * l.n + k) one) l.initial.a)
+
+abbrev pub decreases-loop-i : goal.decreases-loop-i
+decreases-loop-i l = l.n - l.i

@@ -1,0 +1,10 @@
+-- `text::numerals::pattern` meets its contract: 16 digits, or none. Assumes nothing.
+use borrow.Author.Rules.{rules}
+use Rattle.text.specs.Numerals.{pattern-numeral, pattern-not}
+use Rattle.text.proofs.numerals.pattern.Goals as goal
+
+pub returns-then-l-eq16 : goal.returns-then-l-eq16
+returns-then-l-eq16 c = rw (pattern-numeral _ c.if-l-eq16.true) c.value.ensures
+
+pub returns-else-l-eq16 : goal.returns-else-l-eq16
+returns-else-l-eq16 c = rw (pattern-not _ c.if-l-eq16.false)

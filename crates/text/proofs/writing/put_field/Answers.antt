@@ -1,0 +1,27 @@
+-- `text::writing::put_field` meets its contract: a space and the digits stored where there is room, and nothing where there is none.
+-- Assumes nothing.
+use mathlib.Core.Path.{sym, ap, ◌∙◌}
+use Prim.Native.Nat.{◌+◌, ◌≤◌}
+use native.Mathlib.Omega.{arith}
+use borrow.Author.Rules.{rules}
+use borrow.Author.Tests.{leb-true}
+use lib.ListN.{length, length-set}
+use lib.Seq.{length-sets}
+use Rattle.text.specs.Writing.{put_room, put_none, places-most, length-field, field_stored}
+use Rattle.text.proofs.writing.put_field.Goals as goal
+
+fits : (c : goal.Then-room)
+    → let args = c.args in args.at + (c.places-k.result + 1) ≤ length args.out.now
+fits c = leb-true _ _ (sym c.room.ensures ∙ c.if-room.true)
+
+pub returns-then-room : goal.returns-then-room
+returns-then-room c =
+    let args = c.args in
+    let e = ap (λ k. k + 1) c.places-k.ensures in
+    let s = field_stored args.at _ args.n args.out.now _ e c.store_digits.ensures in
+    put_room _ _ _ _ (length-field _ args.n e) _ s (sym c.room.ensures ∙ c.if-room.true)
+
+pub returns-else-room : goal.returns-else-room
+returns-else-room c =
+    let e = ap (λ k. k + 1) c.places-k.ensures in
+    put_none _ _ _ _ (length-field _ c.args.n e) (sym c.room.ensures ∙ c.if-room.false)
