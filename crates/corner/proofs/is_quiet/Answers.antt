@@ -14,33 +14,35 @@ use Rattle.corner.specs.Steps.{Inv, inside, inv_start, inv_next, inv_loud, inv_d
 use Rattle.corner.proofs.is_quiet.Goals.{else-upper, then-upper}
 use Rattle.corner.proofs.is_quiet.Goals as goal
 
--- past the first test the coupling is zero
-found :
-    (c : goal.Else-not-zero_at invariant-loop decreases-loop) →
-    is_zero (get_or c.args.b.now c.loop-known.at nan) ≡ true
-found c = sym c.zero_at.ensures ∙ not-false c.zero_at.result c.if-not-zero_at.false
-
 pub loop-known-init : goal.loop-known-init
 loop-known-init c =
     inv_start c.args.upper c.args.stride c.args.b.now c.if-upper.at
-    (elim c.if-upper.branch [ then-upper w ↦ rw w.if-upper.true w.1 | else-upper w ↦ rw w.if-upper.false w.1 ])
+    (elim c.if-upper.branch [ then-upper w ↦ rw w.if-upper.true w.at-is | else-upper w ↦ rw w.if-upper.false w.at-is ])
 
 pub returns-then-not-zero_at : goal.returns-then-not-zero_at
 returns-then-not-zero_at c =
+    let found : is_zero (get_or c.args.b.now c.loop-known.at nan) ≡ true =
+    sym c.zero_at.ensures ∙ not-false c.zero_at.result c.if-not-zero_at.false in
     let found = sym c.zero_at.ensures ∙ not-true c.zero_at.result c.if-not-zero_at.true in
     inv_loud _ _ _ c.loop-known.invariant _ c.loop-known-test.true found
 
 pub overflow_sub-b : goal.overflow_sub-b
 overflow_sub-b c =
-    omega (arith, inside c.args.b.now c.loop-known.at (found c))
+    let found : is_zero (get_or c.args.b.now c.loop-known.at nan) ≡ true =
+    sym c.zero_at.ensures ∙ not-false c.zero_at.result c.if-not-zero_at.false in
+    omega (arith, inside c.args.b.now c.loop-known.at found)
 
 pub returns-then-b-at : goal.returns-then-b-at
 returns-then-b-at c =
-    inv_ends _ _ _ c.loop-known.invariant _ c.loop-known-test.true (found c) c.if-b-at.true
+    let found : is_zero (get_or c.args.b.now c.loop-known.at nan) ≡ true =
+    sym c.zero_at.ensures ∙ not-false c.zero_at.result c.if-not-zero_at.false in
+    inv_ends _ _ _ c.loop-known.invariant _ c.loop-known-test.true found c.if-b-at.true
 
 pub loop-known-preserved : goal.loop-known-preserved
 loop-known-preserved c =
-    inv_next _ _ _ c.loop-known.invariant (found c)
+    let found : is_zero (get_or c.args.b.now c.loop-known.at nan) ≡ true =
+    sym c.zero_at.ensures ∙ not-false c.zero_at.result c.if-not-zero_at.false in
+    inv_next _ _ _ c.loop-known.invariant found
 
 pub returns : goal.returns
 returns c = inv_done _ _ _ c.loop-known.invariant _ c.loop-known-test.false

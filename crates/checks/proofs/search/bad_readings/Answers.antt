@@ -13,19 +13,6 @@ use Rattle.method.specs.Index.{row_in}
 use Rattle.checks.specs.Values.{place_in}
 use Rattle.checks.proofs.search.bad_readings.Goals as goal
 
--- row i, which a turn of the inner loop looks at, lies inside, and the whole has at most 48 x 48 readings
-row :
-    (c : goal.In-loop-j invariant-loop2 decreases-loop2 invariant-loop decreases-loop) →
-    let args = c.args in
-    (c.loop-i.i * args.cols + args.cols ≤ args.rows * args.cols)
-    × (args.rows * args.cols ≤ most_size * most_size)
-row c =
-    let c = c in
-    (
-      row_in c.loop-i.i c.args.rows c.args.cols (omega arith),
-      mul-le-mul c.requires.1 c.requires.2,
-    )
-
 pub loop-i-init : goal.loop-i-init
 unfolding bad_readings
 loop-i-init c = (omega arith, c.nowhere-found.ensures ∙ repeated-none 0 _ nowhere)
@@ -34,28 +21,57 @@ pub loop-j-init : goal.loop-j-init
 loop-j-init c = (omega arith, repeated-none 0 _ _)
 
 pub overflow_mul-i : goal.overflow_mul-i
-overflow_mul-i c = record { fits = omega (arith, (row c).0, (row c).1) }
+overflow_mul-i c =
+    let row : let args = c.args in (c.loop-i.i * args.cols + args.cols ≤ args.rows * args.cols) × (args.rows * args.cols ≤ most_size * most_size) =
+    (
+          row_in c.loop-i.i c.args.rows c.args.cols (omega arith),
+          mul-le-mul c.requires.1 c.requires.2,
+        ) in
+    record { fits = omega (arith, row.0, row.1) }
 
 pub overflow_add-i : goal.overflow_add-i
-overflow_add-i c = omega (arith, (row c).0, (row c).1)
+overflow_add-i c =
+    let row : let args = c.args in (c.loop-i.i * args.cols + args.cols ≤ args.rows * args.cols) × (args.rows * args.cols ≤ most_size * most_size) =
+    (
+          row_in c.loop-i.i c.args.rows c.args.cols (omega arith),
+          mul-le-mul c.requires.1 c.requires.2,
+        ) in
+    omega (arith, row.0, row.1)
 
 pub offset_bounds-b-i : goal.offset_bounds-b-i
-offset_bounds-b-i c = omega (arith, (row c).0)
+offset_bounds-b-i c =
+    let row : let args = c.args in (c.loop-i.i * args.cols + args.cols ≤ args.rows * args.cols) × (args.rows * args.cols ≤ most_size * most_size) =
+    (
+          row_in c.loop-i.i c.args.rows c.args.cols (omega arith),
+          mul-le-mul c.requires.1 c.requires.2,
+        ) in
+    omega (arith, row.0)
 
 pub bounds-b-i : goal.bounds-b-i
-bounds-b-i c = omega (arith, (row c).0)
+bounds-b-i c =
+    let row : let args = c.args in (c.loop-i.i * args.cols + args.cols ≤ args.rows * args.cols) × (args.rows * args.cols ≤ most_size * most_size) =
+    (
+          row_in c.loop-i.i c.args.rows c.args.cols (omega arith),
+          mul-le-mul c.requires.1 c.requires.2,
+        ) in
+    omega (arith, row.0)
 
 -- fewer were counted than there are readings
 pub looked-found-requires : goal.looked-found-requires
 looked-found-requires c =
+    let row : let args = c.args in (c.loop-i.i * args.cols + args.cols ≤ args.rows * args.cols) × (args.rows * args.cols ≤ most_size * most_size) =
+    (
+          row_in c.loop-i.i c.args.rows c.args.cols (omega arith),
+          mul-le-mul c.requires.1 c.requires.2,
+        ) in
     let args = c.args in
     let bad : Place → ℕ = λ p. p.bad in
     let rows = ap bad c.loop-i.invariant.1 in
     let row-i = ap bad c.loop-j.invariant.1 in
     omega (
       arith,
-      (row c).0,
-      (row c).1,
+      row.0,
+      row.1,
       rows,
       bad_most args.cols c.loop-i.i args.cols args.b.now,
       row-i,

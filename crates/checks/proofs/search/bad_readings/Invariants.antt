@@ -15,7 +15,7 @@ use Rattle.checks.proofs.search.bad_readings.Given as goal
 
 abbrev pub invariant-loop-j : goal.invariant-loop-j
 invariant-loop-j l =
-    (l.j ≤ l.cols) × (place_in l.found ≡ repeated 0 l.j (λ l.j. looked l.i l.j (at l.cols l.i l.j l.b)) (place_in l.initial.found))
+    (l.j ≤ l.cols) × (place_in l.found ≡ repeated 0 l.j (λ j'. looked l.i j' (at l.cols l.i j' l.b)) (place_in l.initial.found))
 
 abbrev pub decreases-loop-j : goal.decreases-loop-j
 decreases-loop-j l = l.cols - l.j

@@ -12,33 +12,56 @@ use Rattle.method.specs.Index.{row_in, few}
 use Rattle.factors.specs.View.{Room}
 use Rattle.factors.proofs.identity.ones.Goals as goal
 
--- row i, which the turn writes to, lies inside
-row :
-    (c : goal.In-loop-i invariant-loop decreases-loop) → let n = c.args.n in
-    Room (c.loop-i.i * n) n (length c.loop-i.a)
-row c =
-    let n = c.args.n in
-    let whole : length c.loop-i.a ≡ n * n =
-    c.loop-i.invariant.1 ∙ ap length c.requires.1 ∙ length-replicate (n * n) plus_zero in
-    record {
-      inside = rw whole (row_in c.loop-i.i n n (omega arith));
-      few = rw whole (few n n (omega arith) (omega arith));
-    }
-
 pub loop-i-init : goal.loop-i-init
 loop-i-init c = (omega arith, refl, repeated-none 0 _ _)
 
 pub overflow_mul-at : goal.overflow_mul-at
-overflow_mul-at c = let room = row c in record { fits = omega arith }
+overflow_mul-at c =
+    let row : let n = c.args.n in Room (c.loop-i.i * n) n (length c.loop-i.a) =
+    let n = c.args.n in
+        let whole : length c.loop-i.a ≡ n * n =
+        c.loop-i.invariant.1 ∙ ap length c.requires.1 ∙ length-replicate (n * n) plus_zero in
+        record {
+          inside = rw whole (row_in c.loop-i.i n n (omega arith));
+          few = rw whole (few n n (omega arith) (omega arith));
+        } in
+    let room = row in record { fits = omega arith }
 
 pub overflow_add-at : goal.overflow_add-at
-overflow_add-at c = let room = row c in omega arith
+overflow_add-at c =
+    let row : let n = c.args.n in Room (c.loop-i.i * n) n (length c.loop-i.a) =
+    let n = c.args.n in
+        let whole : length c.loop-i.a ≡ n * n =
+        c.loop-i.invariant.1 ∙ ap length c.requires.1 ∙ length-replicate (n * n) plus_zero in
+        record {
+          inside = rw whole (row_in c.loop-i.i n n (omega arith));
+          few = rw whole (few n n (omega arith) (omega arith));
+        } in
+    let room = row in omega arith
 
 pub offset_bounds-a-at : goal.offset_bounds-a-at
-offset_bounds-a-at c = let room = row c in omega arith
+offset_bounds-a-at c =
+    let row : let n = c.args.n in Room (c.loop-i.i * n) n (length c.loop-i.a) =
+    let n = c.args.n in
+        let whole : length c.loop-i.a ≡ n * n =
+        c.loop-i.invariant.1 ∙ ap length c.requires.1 ∙ length-replicate (n * n) plus_zero in
+        record {
+          inside = rw whole (row_in c.loop-i.i n n (omega arith));
+          few = rw whole (few n n (omega arith) (omega arith));
+        } in
+    let room = row in omega arith
 
 pub bounds-a-at : goal.bounds-a-at
-bounds-a-at c = let room = row c in omega arith
+bounds-a-at c =
+    let row : let n = c.args.n in Room (c.loop-i.i * n) n (length c.loop-i.a) =
+    let n = c.args.n in
+        let whole : length c.loop-i.a ≡ n * n =
+        c.loop-i.invariant.1 ∙ ap length c.requires.1 ∙ length-replicate (n * n) plus_zero in
+        record {
+          inside = rw whole (row_in c.loop-i.i n n (omega arith));
+          few = rw whole (few n n (omega arith) (omega arith));
+        } in
+    let room = row in omega arith
 
 pub loop-i-preserved : goal.loop-i-preserved
 loop-i-preserved c = (omega arith, simp length-set (omega arith), rw (repeated-next, one-64) (cc))
