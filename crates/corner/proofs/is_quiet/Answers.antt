@@ -21,27 +21,25 @@ loop-known-init c =
 
 pub returns-then-not-zero_at : goal.returns-then-not-zero_at
 returns-then-not-zero_at c =
-    let found : is_zero (get_or c.args.b.now c.loop-known.at nan) ≡ true =
-    sym c.zero_at.ensures ∙ not-false c.zero_at.result c.if-not-zero_at.false in
-    let found = sym c.zero_at.ensures ∙ not-true c.zero_at.result c.if-not-zero_at.true in
+    let found = sym c.zero_at.ensures ∙ c.if-not-zero_at.true in
     inv_loud _ _ _ c.loop-known.invariant _ c.loop-known-test.true found
 
 pub overflow_sub-b : goal.overflow_sub-b
 overflow_sub-b c =
     let found : is_zero (get_or c.args.b.now c.loop-known.at nan) ≡ true =
-    sym c.zero_at.ensures ∙ not-false c.zero_at.result c.if-not-zero_at.false in
+    sym c.zero_at.ensures ∙ c.if-not-zero_at.false in
     omega (arith, inside c.args.b.now c.loop-known.at found)
 
 pub returns-then-b-at : goal.returns-then-b-at
 returns-then-b-at c =
     let found : is_zero (get_or c.args.b.now c.loop-known.at nan) ≡ true =
-    sym c.zero_at.ensures ∙ not-false c.zero_at.result c.if-not-zero_at.false in
+    sym c.zero_at.ensures ∙ c.if-not-zero_at.false in
     inv_ends _ _ _ c.loop-known.invariant _ c.loop-known-test.true found c.if-b-at.true
 
 pub loop-known-preserved : goal.loop-known-preserved
 loop-known-preserved c =
     let found : is_zero (get_or c.args.b.now c.loop-known.at nan) ≡ true =
-    sym c.zero_at.ensures ∙ not-false c.zero_at.result c.if-not-zero_at.false in
+    sym c.zero_at.ensures ∙ c.if-not-zero_at.false in
     inv_next _ _ _ c.loop-known.invariant found
 
 pub returns : goal.returns

@@ -13,7 +13,7 @@ use Rattle.factors.specs.View.{Room}
 use Rattle.factors.proofs.identity.ones.Given as goal
 
 abbrev pub invariant-loop-i : goal.invariant-loop-i
-invariant-loop-i l = (l.i ≤ l.n) × (length l.a ≡ length l.initial.a) × (l.a ≡ repeated 0 l.i (λ k l. set l (k * l.n + k) one) l.initial.a)
+invariant-loop-i r = (r.i ≤ r.n) × (length r.a ≡ length r.initial.a) × (r.a ≡ repeated 0 r.i (λ k l. set l (k * r.n + k) one) r.initial.a)
 
 abbrev pub decreases-loop-i : goal.decreases-loop-i
 decreases-loop-i l = l.n - l.i

@@ -9,7 +9,7 @@ use Rattle.factors.proofs.view.row_view.Goals as goal
 
 pub returns-then-not-view_fit : goal.returns-then-not-view_fit
 returns-then-not-view_fit c =
-    let failed = sym c.view_fit.ensures ∙ not-true _ c.if-not-view_fit.true in
+    let failed = sym c.view_fit.ensures ∙ c.if-not-view_fit.true in
     (no_row _ _ _ _ _ _ failed, no_place _ _ _ _ _ _ _ _ failed)
 
 pub overflow_mul-start : goal.overflow_mul-start
@@ -17,7 +17,7 @@ overflow_mul-start c =
     let passed : let a = c.args in ViewFit a.rows a.cols a.u.now a.v.now a.side a.row =
     let a = c.args in
         (view_fit_lem a.rows a.cols a.u.now a.v.now a.side a.row).0
-        (sym c.view_fit.ensures ∙ not-false _ c.if-not-view_fit.false) in
+        (sym c.view_fit.ensures ∙ c.if-not-view_fit.false) in
     let room = u_room passed c.if-side-eq0.true in record { fits = omega arith }
 
 pub overflow_add-end : goal.overflow_add-end
@@ -25,7 +25,7 @@ overflow_add-end c =
     let passed : let a = c.args in ViewFit a.rows a.cols a.u.now a.v.now a.side a.row =
     let a = c.args in
         (view_fit_lem a.rows a.cols a.u.now a.v.now a.side a.row).0
-        (sym c.view_fit.ensures ∙ not-false _ c.if-not-view_fit.false) in
+        (sym c.view_fit.ensures ∙ c.if-not-view_fit.false) in
     let room = u_room passed c.if-side-eq0.true in omega arith
 
 pub offset_bounds-u-start : goal.offset_bounds-u-start
@@ -33,7 +33,7 @@ offset_bounds-u-start c =
     let passed : let a = c.args in ViewFit a.rows a.cols a.u.now a.v.now a.side a.row =
     let a = c.args in
         (view_fit_lem a.rows a.cols a.u.now a.v.now a.side a.row).0
-        (sym c.view_fit.ensures ∙ not-false _ c.if-not-view_fit.false) in
+        (sym c.view_fit.ensures ∙ c.if-not-view_fit.false) in
     let room = u_room passed c.if-side-eq0.true in omega arith
 
 pub slice_bounds-result-end-then-side-eq0 : goal.slice_bounds-result-end-then-side-eq0
@@ -41,7 +41,7 @@ slice_bounds-result-end-then-side-eq0 c =
     let passed : let a = c.args in ViewFit a.rows a.cols a.u.now a.v.now a.side a.row =
     let a = c.args in
         (view_fit_lem a.rows a.cols a.u.now a.v.now a.side a.row).0
-        (sym c.view_fit.ensures ∙ not-false _ c.if-not-view_fit.false) in
+        (sym c.view_fit.ensures ∙ c.if-not-view_fit.false) in
     let room = u_room passed c.if-side-eq0.true in omega arith
 
 pub returns-then-side-eq0 : goal.returns-then-side-eq0
@@ -49,7 +49,7 @@ returns-then-side-eq0 c =
     let passed : let a = c.args in ViewFit a.rows a.cols a.u.now a.v.now a.side a.row =
     let a = c.args in
         (view_fit_lem a.rows a.cols a.u.now a.v.now a.side a.row).0
-        (sym c.view_fit.ensures ∙ not-false _ c.if-not-view_fit.false) in
+        (sym c.view_fit.ensures ∙ c.if-not-view_fit.false) in
     let fit = passed in
     (u_row fit c.if-side-eq0.true, u_place fit _ _ c.if-side-eq0.true)
 
@@ -58,7 +58,7 @@ overflow_mul-start-2 c =
     let passed : let a = c.args in ViewFit a.rows a.cols a.u.now a.v.now a.side a.row =
     let a = c.args in
         (view_fit_lem a.rows a.cols a.u.now a.v.now a.side a.row).0
-        (sym c.view_fit.ensures ∙ not-false _ c.if-not-view_fit.false) in
+        (sym c.view_fit.ensures ∙ c.if-not-view_fit.false) in
     let room = v_room passed c.if-side-eq0.false in record { fits = omega arith }
 
 pub overflow_add-end-2 : goal.overflow_add-end-2
@@ -66,7 +66,7 @@ overflow_add-end-2 c =
     let passed : let a = c.args in ViewFit a.rows a.cols a.u.now a.v.now a.side a.row =
     let a = c.args in
         (view_fit_lem a.rows a.cols a.u.now a.v.now a.side a.row).0
-        (sym c.view_fit.ensures ∙ not-false _ c.if-not-view_fit.false) in
+        (sym c.view_fit.ensures ∙ c.if-not-view_fit.false) in
     let room = v_room passed c.if-side-eq0.false in omega arith
 
 pub offset_bounds-v-start : goal.offset_bounds-v-start
@@ -74,7 +74,7 @@ offset_bounds-v-start c =
     let passed : let a = c.args in ViewFit a.rows a.cols a.u.now a.v.now a.side a.row =
     let a = c.args in
         (view_fit_lem a.rows a.cols a.u.now a.v.now a.side a.row).0
-        (sym c.view_fit.ensures ∙ not-false _ c.if-not-view_fit.false) in
+        (sym c.view_fit.ensures ∙ c.if-not-view_fit.false) in
     let room = v_room passed c.if-side-eq0.false in omega arith
 
 pub slice_bounds-result-end-2 : goal.slice_bounds-result-end-2
@@ -82,7 +82,7 @@ slice_bounds-result-end-2 c =
     let passed : let a = c.args in ViewFit a.rows a.cols a.u.now a.v.now a.side a.row =
     let a = c.args in
         (view_fit_lem a.rows a.cols a.u.now a.v.now a.side a.row).0
-        (sym c.view_fit.ensures ∙ not-false _ c.if-not-view_fit.false) in
+        (sym c.view_fit.ensures ∙ c.if-not-view_fit.false) in
     let room = v_room passed c.if-side-eq0.false in omega arith
 
 pub returns : goal.returns
@@ -90,6 +90,6 @@ returns c =
     let passed : let a = c.args in ViewFit a.rows a.cols a.u.now a.v.now a.side a.row =
     let a = c.args in
         (view_fit_lem a.rows a.cols a.u.now a.v.now a.side a.row).0
-        (sym c.view_fit.ensures ∙ not-false _ c.if-not-view_fit.false) in
+        (sym c.view_fit.ensures ∙ c.if-not-view_fit.false) in
     let fit = passed in
     (v_row fit c.if-side-eq0.false, v_place fit _ _ c.if-side-eq0.false)
