@@ -1,5 +1,4 @@
 -- `text::numerals::digit` meets its contract: the two ranges of digits. Assumes nothing.
-use borrow.Author.Rules.{rules}
 use Rattle.text.specs.Digits.{digit_low, digit-high}
 use Rattle.text.proofs.numerals.digit.Goals as goal
 

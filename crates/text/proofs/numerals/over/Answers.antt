@@ -1,5 +1,4 @@
 -- `text::numerals::over` meets its contract: a small v leaves room for any digit, and else the division tells. Assumes nothing.
-use borrow.Author.Rules.{rules}
 use Rattle.text.specs.Numerals.{over_small, over_large}
 use Rattle.text.proofs.numerals.over.Goals as goal
 

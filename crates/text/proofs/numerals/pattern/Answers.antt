@@ -1,5 +1,4 @@
 -- `text::numerals::pattern` meets its contract: 16 digits, or none. Assumes nothing.
-use borrow.Author.Rules.{rules}
 use Rattle.text.specs.Numerals.{pattern-numeral, pattern-not}
 use Rattle.text.proofs.numerals.pattern.Goals as goal
 

@@ -1,8 +1,6 @@
 -- `text::numerals::places` meets its contract: the digits of what is left and those that were counted are all; the measure is what is left. Assumes nothing.
-use mathlib.Core.Path.{◌≡◌, refl}
-use Prim.Native.Nat.{◌+◌, ◌<◌, ◌≤◌}
-use native.Mathlib.Omega.{arith}
-use Rattle.text.specs.Writing.{places-most, places-next, places-end}
+use mathlib.Core.Path.{◌≡◌}
+use Prim.Native.Nat.{◌+◌, ◌≤◌}
 use Rattle.text.specs.Text.{places_by}
 use Rattle.text.proofs.numerals.places.Given as goal
 

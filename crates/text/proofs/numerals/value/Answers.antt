@@ -1,19 +1,11 @@
 -- `text::numerals::value` meets its contract: the digits read so far have the value v; the measure is how many are left. Assumes nothing.
-use mathlib.Core.Path.{◌≡◌, refl, sym, ◌∙◌}
-use Prim.Native.Nat.{◌+◌, ◌-◌, ◌*◌, ◌^◌, ◌<◌, ◌≤◌}
+use mathlib.Core.Path.{refl, sym, ◌∙◌}
+use Prim.Native.Nat.{◌+◌, ◌*◌, ◌^◌, ◌<◌, ◌≤◌}
 use native.Mathlib.Omega.{arith}
-use borrow.Author.Rules.{rules}
 use borrow.Author.Tests.{leb-true, leb-false}
-use lib.ListN.{drop, length}
 use Rattle.text.specs.Digits.{value-next}
 use Rattle.text.specs.Numerals.{numeral-unbased, numeral-stop, numeral-over, numeral-end}
-use Rattle.text.specs.Text.{value as value_of}
 use Rattle.text.proofs.numerals.value.Goals as goal
-
--- one digit more stays below 2 ^ 64
-below : (c : goal.Else-over invariant-loop decreases-loop)
-    → c.loop-i.v * c.args.base + c.worth-d.result < 2 ^ 64
-below c = leb-false _ _ (sym c.over.ensures ∙ c.if-over.false)
 
 pub returns-then-base-gt16 : goal.returns-then-base-gt16
 returns-then-base-gt16 c = rw (numeral-unbased c.args.base c.args.l.now c.if-base-gt16.true)
@@ -46,7 +38,8 @@ loop-i-preserved c =
     let at-loop = c.loop-i in
     let d = rw at-worth.ensures at c.if-base-d.false in
     let e = value-next _ at-loop.v _ _ c.loop-i-test.true d in
-    (omega arith, at-loop.invariant.1, below c, rw at-worth.ensures (sym e ∙ at-loop.invariant.3))
+    let below : at-loop.v * c.args.base + at-worth.result < 2 ^ 64 = leb-false _ _ (sym c.over.ensures ∙ c.if-over.false) in
+    (omega arith, at-loop.invariant.1, below, rw at-worth.ensures (sym e ∙ at-loop.invariant.3))
 
 pub returns : goal.returns
 returns c =

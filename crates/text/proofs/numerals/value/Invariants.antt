@@ -1,12 +1,7 @@
 -- `text::numerals::value` meets its contract: the digits read so far have the value v; the measure is how many are left. Assumes nothing.
-use mathlib.Core.Path.{◌≡◌, refl, sym, ◌∙◌}
-use Prim.Native.Nat.{◌+◌, ◌-◌, ◌*◌, ◌^◌, ◌<◌, ◌≤◌}
-use native.Mathlib.Omega.{arith}
-use borrow.Author.Rules.{rules}
-use borrow.Author.Tests.{leb-true, leb-false}
+use mathlib.Core.Path.{◌≡◌}
+use Prim.Native.Nat.{◌-◌, ◌^◌, ◌<◌, ◌≤◌}
 use lib.ListN.{drop, length}
-use Rattle.text.specs.Digits.{value-next}
-use Rattle.text.specs.Numerals.{numeral-unbased, numeral-stop, numeral-over, numeral-end}
 use Rattle.text.specs.Text.{value as value_of}
 use Rattle.text.proofs.numerals.value.Given as goal
 

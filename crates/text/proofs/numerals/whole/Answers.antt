@@ -1,7 +1,5 @@
 -- `text::numerals::whole` meets its contract: a law for each way out. Assumes nothing.
-use mathlib.Core.Path.{sym, ◌∙◌}
 use native.Mathlib.Omega.{arith}
-use borrow.Author.Rules.{rules}
 use Rattle.text.specs.Numerals.{number-empty, number-zero, number_is, number-over, number-not}
 use Rattle.text.proofs.numerals.whole.Goals as goal
 
@@ -11,18 +9,13 @@ returns-then-l-eq0 c = number-empty _ _ c.if-l-eq0.true
 pub returns-then-l-eq48 : goal.returns-then-l-eq48
 returns-then-l-eq48 c = number-zero _ _ c.if-l-eq48.true
 
-pub enum_told-1 : goal.enum_told-1
-enum_told-1 c = search rules
-
 pub returns-then-v-most : goal.returns-then-v-most
 returns-then-v-most c =
-    number_is _ _ c.if-l-eq0.false c.if-l-eq48.false _ (sym c.v-1.given.1 ∙ c.value.ensures) c.if-v-most.true
+    number_is _ _ c.if-l-eq0.false c.if-l-eq48.false _ c.in-Is.ensures c.if-v-most.true
 
 pub returns-else-v-most : goal.returns-else-v-most
 returns-else-v-most c =
-    number-over _ _ c.if-l-eq0.false c.if-l-eq48.false _ (sym c.v-1.given.1 ∙ c.value.ensures) c.if-v-most.false
+    number-over _ _ c.if-l-eq0.false c.if-l-eq48.false _ c.in-Is.ensures c.if-v-most.false
 
 pub returns-in-Not : goal.returns-in-Not
-returns-in-Not c =
-    let told = sym c.enum_told-1.given.1 ∙ c.value.ensures in
-    number-not _ _ c.if-l-eq0.false c.if-l-eq48.false told (omega arith)
+returns-in-Not c = number-not _ _ c.if-l-eq0.false c.if-l-eq48.false c.in-Not.ensures (omega arith)

@@ -1,5 +1,4 @@
 -- `text::numerals::worth` meets its contract: each range of bytes has its own way out. Assumes nothing.
-use borrow.Author.Rules.{rules}
 use Rattle.text.specs.Digits.{worth-below, worth-decimal, worth-between, worth-letter, worth-above}
 use Rattle.text.proofs.numerals.worth.Goals as goal
 

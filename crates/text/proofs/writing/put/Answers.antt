@@ -1,16 +1,7 @@
 -- `text::writing::put` meets its contract: the bytes stored where there is room, and nothing where there is none. Assumes nothing.
 use mathlib.Core.Path.{refl, sym, ◌∙◌}
-use Prim.Native.Nat.{◌+◌, ◌≤◌}
-use native.Mathlib.Omega.{arith}
-use borrow.Author.Rules.{rules}
-use borrow.Author.Tests.{leb-true}
-use lib.ListN.{length}
 use Rattle.text.specs.Writing.{put_room, put_none}
 use Rattle.text.proofs.writing.put.Goals as goal
-
-fits : (c : goal.Then-room)
-    → c.args.at + length c.args.s.now ≤ length c.args.out.now
-fits c = leb-true _ _ (sym c.room.ensures ∙ c.if-room.true)
 
 pub returns-then-room : goal.returns-then-room
 returns-then-room c =

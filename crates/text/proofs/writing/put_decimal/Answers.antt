@@ -1,17 +1,8 @@
 -- `text::writing::put_decimal` meets its contract: the digits stored where there is room, and nothing where there is none. Assumes nothing.
 use mathlib.Core.Path.{sym, ◌∙◌}
-use Prim.Native.Nat.{◌+◌, ◌≤◌}
-use native.Mathlib.Omega.{arith}
-use borrow.Author.Rules.{rules}
-use borrow.Author.Tests.{leb-true}
-use lib.ListN.{length}
 use Rattle.text.specs.Text.{shown}
 use Rattle.text.specs.Writing.{put_room, put_none, length-shown}
 use Rattle.text.proofs.writing.put_decimal.Goals as goal
-
-fits : (c : goal.Then-room)
-    → let args = c.args in args.at + c.places-k.result ≤ length args.out.now
-fits c = leb-true _ _ (sym c.room.ensures ∙ c.if-room.true)
 
 pub returns-then-room : goal.returns-then-room
 unfolding shown

@@ -1,18 +1,13 @@
 -- `text::writing::put_field` meets its contract: a space and the digits stored where there is room, and nothing where there is none.
 -- Assumes nothing.
 use mathlib.Core.Path.{sym, ap, ◌∙◌}
-use Prim.Native.Nat.{◌+◌, ◌≤◌}
+use Prim.Native.Nat.{◌+◌}
 use native.Mathlib.Omega.{arith}
-use borrow.Author.Rules.{rules}
-use borrow.Author.Tests.{leb-true}
-use lib.ListN.{length, length-set}
-use lib.Seq.{length-sets}
 use Rattle.text.specs.Writing.{put_room, put_none, places-most, length-field, field_stored}
 use Rattle.text.proofs.writing.put_field.Goals as goal
 
-fits : (c : goal.Then-room)
-    → let args = c.args in args.at + (c.places-k.result + 1) ≤ length args.out.now
-fits c = leb-true _ _ (sym c.room.ensures ∙ c.if-room.true)
+pub overflow_add-k : goal.overflow_add-k
+overflow_add-k c = omega (arith, c.places-k.ensures, places-most 19 c.args.n (omega arith))
 
 pub returns-then-room : goal.returns-then-room
 returns-then-room c =

@@ -1,10 +1,8 @@
 -- `text::writing::store` meets its contract: the bytes still to write give the whole; the measure is how many are left. Assumes nothing.
 use mathlib.Core.Path.{◌≡◌, refl, sym, ◌∙◌}
-use Prim.Native.Nat.{◌+◌, ◌-◌, ◌≤◌}
+use Prim.Native.Nat.{◌+◌}
 use native.Mathlib.Omega.{arith}
-use borrow.Author.Rules.{rules}
-use lib.Seq.{sets}
-use lib.ListN.{drop, length, length-set}
+use lib.ListN.{length, length-set}
 use Rattle.text.specs.Writing.{sets_next, sets_end}
 use Rattle.text.proofs.writing.store.Goals as goal
 

@@ -1,11 +1,8 @@
 -- `text::writing::store` meets its contract: the bytes still to write give the whole; the measure is how many are left. Assumes nothing.
-use mathlib.Core.Path.{◌≡◌, refl, sym, ◌∙◌}
+use mathlib.Core.Path.{◌≡◌}
 use Prim.Native.Nat.{◌+◌, ◌-◌, ◌≤◌}
-use native.Mathlib.Omega.{arith}
-use borrow.Author.Rules.{rules}
 use lib.Seq.{sets}
-use lib.ListN.{drop, length, length-set}
-use Rattle.text.specs.Writing.{sets_next, sets_end}
+use lib.ListN.{drop, length}
 use Rattle.text.proofs.writing.store.Given as goal
 
 abbrev pub invariant-loop-i : goal.invariant-loop-i

@@ -1,13 +1,10 @@
 -- `text::writing::store_digits` meets its contract: the j digits still to write give the whole; the measure is j. Assumes nothing.
 use mathlib.Core.Path.{◌≡◌, refl, sym, ◌∙◌}
-use Prim.Native.Nat.{◌<◌, ◌≤◌}
+use Prim.Native.Nat.{◌<◌}
 use native.Mathlib.Nat.{mod-lt}
 use native.Mathlib.Omega.{arith}
-use borrow.Author.Rules.{rules}
-use lib.ListN.{length, length-set}
-use lib.Seq.{sets}
+use lib.ListN.{length-set}
 use Rattle.text.specs.Digits.{digits-none, digits-next}
-use Rattle.text.specs.Text.{digits as digitsOf}
 use Rattle.text.proofs.writing.store_digits.Goals as goal
 
 pub loop-j-init : goal.loop-j-init

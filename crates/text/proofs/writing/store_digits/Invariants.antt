@@ -1,12 +1,8 @@
 -- `text::writing::store_digits` meets its contract: the j digits still to write give the whole; the measure is j. Assumes nothing.
-use mathlib.Core.Path.{◌≡◌, refl, sym, ◌∙◌}
-use Prim.Native.Nat.{◌<◌, ◌≤◌}
-use native.Mathlib.Nat.{mod-lt}
-use native.Mathlib.Omega.{arith}
-use borrow.Author.Rules.{rules}
-use lib.ListN.{length, length-set}
+use mathlib.Core.Path.{◌≡◌}
+use Prim.Native.Nat.{◌≤◌}
+use lib.ListN.{length}
 use lib.Seq.{sets}
-use Rattle.text.specs.Digits.{digits-none, digits-next}
 use Rattle.text.specs.Text.{digits as digitsOf}
 use Rattle.text.proofs.writing.store_digits.Given as goal
 
