@@ -10,7 +10,7 @@ use Rattle.factors.proofs.view.row_view.Goals as goal
 pub returns-then-not-view_fit : goal.returns-then-not-view_fit
 returns-then-not-view_fit c =
     let failed = sym c.view_fit.ensures ∙ c.if-not-view_fit.true in
-    (no_row _ _ _ _ _ _ failed, no_place _ _ _ _ _ _ _ _ failed)
+    record { entries = no_row _ _ _ _ _ _ failed; place = no_place _ _ _ _ _ _ _ _ failed }
 
 pub overflow_mul-start : goal.overflow_mul-start
 overflow_mul-start c =
@@ -51,7 +51,7 @@ returns-then-side-eq0 c =
         (view_fit_lem a.rows a.cols a.u.now a.v.now a.side a.row).0
         (sym c.view_fit.ensures ∙ c.if-not-view_fit.false) in
     let fit = passed in
-    (u_row fit c.if-side-eq0.true, u_place fit _ _ c.if-side-eq0.true)
+    record { entries = u_row fit c.if-side-eq0.true; place = u_place fit _ _ c.if-side-eq0.true }
 
 pub overflow_mul-start-2 : goal.overflow_mul-start-2
 overflow_mul-start-2 c =
@@ -92,4 +92,4 @@ returns c =
         (view_fit_lem a.rows a.cols a.u.now a.v.now a.side a.row).0
         (sym c.view_fit.ensures ∙ c.if-not-view_fit.false) in
     let fit = passed in
-    (v_row fit c.if-side-eq0.false, v_place fit _ _ c.if-side-eq0.false)
+    record { entries = v_row fit c.if-side-eq0.false; place = v_place fit _ _ c.if-side-eq0.false }

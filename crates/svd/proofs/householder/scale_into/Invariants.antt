@@ -1,0 +1,18 @@
+-- `scale_into` meets its contract: after k turns w is `scaled` of k entries. Assumes nothing.
+use borrow.Author.Rules.{rules}
+use Prim.Native.Nat.{◌-◌, ◌≤◌, zero-le}
+use mathlib.Core.Path.{◌≡◌, ap, ◌∙◌}
+use native.Mathlib.Omega.{arith}
+use native.Mathlib.Nat.{le_antisymm}
+use lib.ListN.{length, length-set}
+use lib.Ieee.{binary64}
+use Rattle.method.specs.Settings.{most_size}
+use Rattle.method.specs.Repeated.{repeated-none, repeated-more}
+use Rattle.method.specs.Reflection.{scaled}
+use Rattle.svd.proofs.householder.scale_into.Given as goal
+
+abbrev pub invariant-loop-k : goal.invariant-loop-k
+invariant-loop-k l = (l.k ≤ l.n) × (length l.w ≡ most_size) × (l.w ≡ scaled binary64 l.v l.at l.x l.k)
+
+abbrev pub decreases-loop-k : goal.decreases-loop-k
+decreases-loop-k l = l.n - l.k
