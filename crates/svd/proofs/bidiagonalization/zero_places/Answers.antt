@@ -49,8 +49,8 @@ zero_col-requires-else-upper c =
     let inside = place_inside c.loop-next-test.true c.requires.0 in
     (inside.2, inside.1, roomy_kept c.zero_row-else-upper.auto.b lent.table, lent.u)
 
-pub loop-next-preserved-else-upper : goal.loop-next-preserved-else-upper
-loop-next-preserved-else-upper c =
+pub loop-next-preserved : goal.loop-next-preserved
+loop-next-preserved c =
     (
       omega arith,
       onward c.loop-next.invariant.1 (record { matrix = c.zero_col-else-upper.auto.b ∙ c.zero_row-else-upper.auto.b; u = c.zero_col-else-upper.auto.u; v = c.zero_row-else-upper.auto.v }),

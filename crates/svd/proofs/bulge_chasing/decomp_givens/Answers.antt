@@ -33,11 +33,11 @@ pub sweep-walk-requires : goal.sweep-walk-requires
 sweep-walk-requires c =
     sweep_room c.requires.1 c.loop-made.invariant c.loop-made-test.true c.if-walk-gt1.true c.if-walk-s.true c.givens_iteration-turns.ensures.1
 
-pub loop-made-smaller-else-drops : goal.loop-made-smaller-else-drops
-loop-made-smaller-else-drops c = omega (arith, c.loop-made-test.true)
+pub loop-made-smaller : goal.loop-made-smaller
+loop-made-smaller c = omega (arith, c.loop-made-test.true)
 
-pub loop-made-preserved-else-drops : goal.loop-made-preserved-else-drops
-loop-made-preserved-else-drops c =
+pub loop-made-preserved : goal.loop-made-preserved
+loop-made-preserved c =
     inv_sweep c.requires.1 c.loop-made.invariant c.loop-made-test.true c.if-walk-gt1.true c.if-walk-s.true c.sweep-walk.ensures.0 c.sweep-walk.ensures.1 c.givens_iteration-turns.ensures.0 c.givens_iteration-turns.ensures.1 (sym c.is_negligible-drops.ensures ∙ c.if-drops.false)
 
 pub returns-else-walk-s : goal.returns-else-walk-s
