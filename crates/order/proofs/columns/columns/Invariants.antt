@@ -1,0 +1,28 @@
+-- `columns` meets its contract: after i turns the first i rows are rewritten, and the others are as they were. Assumes
+-- nothing.
+use borrow.Author.Rules.{rules}
+use native.Mathlib.Omega.{arith}
+use Prim.Native.Nat.{◌+◌, ◌-◌, ◌*◌, ◌≤◌}
+use native.Mathlib.Nat.{le_antisymm}
+use mathlib.Core.Path.{◌≡◌, refl, sym, ap, ◌∙◌}
+use lib.ListN.{length, get_or, take}
+use lib.Seq.{get_or-take}
+use lib.Ieee.{nan}
+use Rattle.method.specs.Floats.{signed_if}
+use Rattle.method.specs.Index.{row_in, few}
+use Rattle.method.specs.Writes.{length-writes}
+use Rattle.method.specs.Order.{diagonal, rows_moved}
+use Rattle.method.specs.Order.Columns.{rows_none, row_step}
+use Rattle.order.specs.Laws.{row_inside}
+use Rattle.order.proofs.columns.columns.Given as goal
+
+abbrev pub invariant-loop-i : goal.invariant-loop-i
+invariant-loop-i l =
+    (l.i ≤ l.n)
+    × (length l.a ≡ length l.initial.a)
+    × (length l.w ≡ 48)
+    × (l.a ≡ rows_moved l.n l.c (λ k. get_or (take l.c l.p) k 0) (λ k x. signed_if l.signs (diagonal l.cols l.b (get_or (take l.c l.p) k 0)) x)
+    l.initial.a l.i)
+
+abbrev pub decreases-loop-i : goal.decreases-loop-i
+decreases-loop-i l = l.n - l.i

@@ -1,0 +1,17 @@
+-- `copy_row` meets its contract: after k turns the first k entries are copied. Assumes nothing.
+use borrow.Author.Rules.{rules}
+use native.Mathlib.Omega.{arith}
+use Prim.Native.Nat.{◌+◌, ◌-◌, ◌≤◌}
+use native.Mathlib.Nat.{le_antisymm}
+use mathlib.Core.Path.{◌≡◌, refl, ◌∙◌}
+use lib.ListN.{length, length-set, get_or}
+use lib.Ieee.{nan}
+use Rattle.method.specs.Repeated.{repeated-none}
+use Rattle.method.specs.Writes.{writes, writes_more}
+use Rattle.order.proofs.columns.copy_row.Given as goal
+
+abbrev pub invariant-loop-k : goal.invariant-loop-k
+invariant-loop-k l = (l.k ≤ l.c) × (length l.w ≡ length l.initial.w) × (l.w ≡ writes (λ k'. k') (λ k'. get_or l.a (l.at + k') nan) l.k l.initial.w)
+
+abbrev pub decreases-loop-k : goal.decreases-loop-k
+decreases-loop-k l = l.c - l.k

@@ -1,0 +1,25 @@
+-- `write_row` meets its contract: after k turns the first k entries of the row are written. Assumes nothing.
+use borrow.Author.Rules.{rules}
+use native.Mathlib.Omega.{arith}
+use Prim.Native.Nat.{ℕ, ◌+◌, ◌-◌, ◌≤◌}
+use native.Mathlib.Nat.{le_antisymm}
+use mathlib.Core.Path.{◌≡◌, refl, sym, ap, ◌∙◌}
+use lib.ListN.{length, length-set, get_or, take}
+use lib.Seq.{get_or-take}
+use lib.Ieee.{nan}
+use Rattle.method.specs.Floats.{signed_if}
+use Rattle.method.specs.Repeated.{repeated-none}
+use Rattle.method.specs.Writes.{writes, writes_more}
+use Rattle.method.specs.Order.{diagonal}
+use Rattle.order.specs.Laws.{listed_in, listed-few}
+use Rattle.order.proofs.columns.write_row.Given as goal
+
+abbrev pub invariant-loop-k : goal.invariant-loop-k
+invariant-loop-k l =
+    (l.k ≤ l.c)
+    × (length l.a ≡ length l.initial.a)
+    × (l.a ≡ writes (λ k'. l.at + k')
+    (λ k'. signed_if l.signs (diagonal l.cols l.b (get_or (take l.c l.p) k' 0)) (get_or l.w (get_or (take l.c l.p) k' 0) nan)) l.k l.initial.a)
+
+abbrev pub decreases-loop-k : goal.decreases-loop-k
+decreases-loop-k l = l.c - l.k

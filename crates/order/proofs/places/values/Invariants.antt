@@ -1,0 +1,22 @@
+-- `values` meets its contract: after k turns the first k values are written. Assumes nothing.
+use borrow.Author.Rules.{rules}
+use native.Mathlib.Omega.{arith}
+use Prim.Native.Nat.{ℕ, ◌-◌, ◌≤◌}
+use native.Mathlib.Nat.{le_antisymm}
+use mathlib.Core.Path.{◌≡◌, refl, sym, ap, ◌∙◌}
+use lib.ListN.{length, length-set, get_or, take}
+use lib.Seq.{get_or-take}
+use Rattle.method.specs.Floats.{magnitude}
+use Rattle.method.specs.Repeated.{repeated-none}
+use Rattle.method.specs.Writes.{writes, writes_more}
+use Rattle.method.specs.Order.{diagonal, values_by}
+use Rattle.order.specs.Laws.{listed_in, listed-few}
+use Rattle.order.proofs.places.values.Given as goal
+
+abbrev pub invariant-loop-k : goal.invariant-loop-k
+invariant-loop-k l =
+    (l.k ≤ l.c) × (length l.list ≡ length l.initial.list) ×
+    (l.list ≡ writes (λ k'. k') (λ k'. magnitude (diagonal l.cols l.b (get_or (take l.c l.p) k' 0))) l.k l.initial.list)
+
+abbrev pub decreases-loop-k : goal.decreases-loop-k
+decreases-loop-k l = l.c - l.k
