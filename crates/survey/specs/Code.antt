@@ -6,7 +6,7 @@ use Rattle.std.specs.Float.{binary64}
 use Rattle.std.specs.Float.Ieee.{of_bits}
 use Rattle.method.specs.Report.{Report}
 use Rattle.survey.specs.declared.reading.Entry.{Entry}
-use Rattle.text.specs.Text.{Bytes, space, ◌>>=◌, cut, number, pattern}
+use Rattle.text.specs.Text.{Bytes, space, ◌>>=◌, cut, pattern}
 use Rattle.survey.specs.declared.reading.Place.{Place}
 use Rattle.survey.specs.declared.reading.Head.{Head}
 use Rattle.survey.specs.Form.{row_line, Got, malformed, got, line, and_then, body, Survey}
