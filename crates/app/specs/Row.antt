@@ -5,10 +5,10 @@ use Rattle.std.proofs.Common.{sym, ◌∙◌, true≢false, arith}
 use Rattle.std.proofs.Math.Bool.{true, false}
 use Rattle.std.proofs.Math.ListN.{length, take}
 use Rattle.method.specs.Floats.{pick}
-use Rattle.method.specs.Index.{few}
+use Rattle.method.proofs.Index.{few}
 use Rattle.method.specs.Settings.{most_size}
 use Rattle.method.specs.View.{row_of, view_fit, row_viewed}
-use Rattle.method.specs.View.Rows.{view_fit_lem, row_viewed_lem, row_viewed-length, row_refused}
+use Rattle.method.proofs.View.Rows.{view_fit_lem, row_viewed_lem, row_viewed-length, row_refused}
 use Rattle.app.specs.declared.Part.{Part}
 
 abbrev pub part : ℕ → ℕ → Part

@@ -11,21 +11,26 @@ use Rattle.std.specs.Float.{binary64}
 use Rattle.method.specs.Work.{Work, work}
 use Rattle.method.specs.Settings as Method
 use Rattle.method.specs.Checks.{nowhere, Refusal}
-use Rattle.method.specs.Checks.First.{First, none-refused, first_below}
+use Rattle.method.specs.Checks.First.{First}
+use Rattle.method.proofs.Checks.First.{none-refused, first_below}
 use Rattle.method.specs.Checks.Readings.{FirstBad}
-use Rattle.method.specs.Checks.Table.{OverLimit, UnfitBounds, setting_tests, none-counted}
+use Rattle.method.specs.Checks.Table.{OverLimit, UnfitBounds}
+use Rattle.method.proofs.Checks.Table.{setting_tests, none-counted}
 use Rattle.method.specs.Report as Report
 use Rattle.method.specs.Report.{refused}
 use Rattle.method.specs.Outcome.{Outcome, outcome_of, card, accepted}
 use Rattle.method.specs.Ordered.{ordered_of, refused_after}
-use Rattle.method.specs.Ordered.Numbers.{after_meanings}
+use Rattle.method.proofs.Ordered.Numbers.{after_meanings}
 use Rattle.method.specs.Profiles.{no_profile, profile_at, Picked, picked, settings_in, settings_by, profile_outcome}
 use Rattle.method.specs.Profiles.{profile_plain, profile_full, profile_ordered, refusal_by, ordered_checks_by, ordered_refusal_by}
-use Rattle.method.specs.Profiles.Nearest.{SettingsNearest, settings_nearest}
-use Rattle.method.specs.Profiles.Table.{there, picked-there, settings_there, profile-passes, passes_most, rotations_most}
-use Rattle.method.specs.Profiles.Ways as Ways
-use Rattle.method.specs.Profiles.Numbers.{meanings_by, ordered_meanings_by, refusal-told, numbers-by, place-by}
-use Rattle.method.specs.Profiles.Numbers.{ordered-numbers_by, ordered-place_by}
+use Rattle.method.specs.Profiles.Nearest.{SettingsNearest}
+use Rattle.method.proofs.Profiles.Nearest.{settings_nearest}
+use Rattle.method.specs.Profiles.Table.{passes_most, rotations_most}
+use Rattle.method.proofs.Profiles.Table.{there, picked-there, settings_there, profile-passes}
+use Rattle.method.proofs.Profiles.Ways as Ways
+use Rattle.method.specs.Profiles.Numbers.{meanings_by, ordered_meanings_by}
+use Rattle.method.proofs.Profiles.Numbers.{refusal-told, numbers-by, place-by}
+use Rattle.method.proofs.Profiles.Numbers.{ordered-numbers_by, ordered-place_by}
 use Rattle.checks.specs.declared.settings.Settings.{Settings}
 use Rattle.checks.specs.Values.{settings_of, place_in, refusal_in}
 use Rattle.checks.specs.Answers.{from_settings}

@@ -10,8 +10,8 @@ use Rattle.method.specs.Report.{Report, refused}
 use Rattle.method.specs.Outcome.{Outcome, outcome_of, outcome}
 use Rattle.method.specs.Ordered.{Ordered, ordered_of, lent_checks, ordered_outcome}
 use Rattle.method.specs.Profiles.{no_profile, Picked, picked, settings_by, profile_outcome, profile_ordered}
-use Rattle.method.specs.Profiles.Table.{picked-there, picked_none}
-use Rattle.method.specs.Profiles.Ways.{as_settings, none-refused_by, ordered-as_settings, ordered-none_refused}
+use Rattle.method.proofs.Profiles.Table.{picked-there, picked_none}
+use Rattle.method.proofs.Profiles.Ways.{as_settings, none-refused_by, ordered-as_settings, ordered-none_refused}
 
 -- a number is picked, or not, as its profile is there or not
 module _ (k : ℕ) (p : Picked) (e : p ≡ picked binary64 k) where

@@ -6,11 +6,11 @@ use Rattle.std.proofs.lemmas.Bool.{false≢true}
 use Rattle.std.proofs.Math.ListN.{get_or-eq_default}
 use Rattle.std.specs.Float.{nan}
 use Rattle.method.specs.Floats.{pick, is_zero}
-use Rattle.method.specs.Index.{row_next}
+use Rattle.method.proofs.Index.{row_next}
 use Rattle.method.specs.Work.{coupling_place}
 use Rattle.method.specs.Chase.{coupling}
 use Rattle.method.specs.Quiet.{quiet_corner}
-use Rattle.method.specs.Quiet.Laws.{quiet_none, quiet_next, quiet_says, not_quiet}
+use Rattle.method.proofs.Quiet.Laws.{quiet_none, quiet_next, quiet_says, not_quiet}
 
 -- behind the end of a list stands no zero
 pub behind : (b : List Float) (i : ℕ) → length b ≤ i → is_zero (get_or b i nan) ≡ false

@@ -4,7 +4,8 @@ use Rattle.std.proofs.Common.{sym, ap, ◌∙◌, append-nil, not-suc-le-zero, l
 use Rattle.std.proofs.Math.Seq.{drop-length}
 use Rattle.method.specs.Floats.{plus_zero}
 use Rattle.method.specs.Fill.{identity, filled, fill_number, fill_outcome}
-use Rattle.method.specs.Fill.Numbers.{FillFit, fill_fit, fill_refused, fill_accepted}
+use Rattle.method.specs.Fill.Numbers.{FillFit}
+use Rattle.method.proofs.Fill.Numbers.{fill_fit, fill_refused, fill_accepted}
 
 -- the next entry after k zeros set to 0: one zero more
 zeros-set :

@@ -6,8 +6,9 @@ use native.Mathlib.Omega.{arith}
 use borrow.Author.Tests.{ltb-true, ltb-false, eq-eqb, ne_eqb}
 use Rattle.method.specs.Floats.{pick}
 use Rattle.method.specs.View.{view_fit, row_viewed}
-use Rattle.method.specs.View.Rows.{ViewFit, view_fit_lem, row_viewed_lem, row_refused}
-use Rattle.method.specs.Index.{row_in, few}
+use Rattle.method.specs.View.Rows.{ViewFit}
+use Rattle.method.proofs.View.Rows.{view_fit_lem, row_viewed_lem, row_refused}
+use Rattle.method.proofs.Index.{row_in, few}
 
 -- ---- the place
 

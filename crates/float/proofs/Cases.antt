@@ -12,9 +12,10 @@ use lib.Ieee.{Float, nan, inf, fin, binary64, up, down, fits, is_nan, of_bits, t
 use lib.Ieee.Bits.{of_bits-to_bits, is_true, nan_bits_is, nan_bits_above}
 use lib.Ieee.Positive.{positive}
 use Rattle.method.specs.Root.{square, rooted, square_root}
-use Rattle.method.specs.Root.Grid.{less_or_not}
-use Rattle.method.specs.Root.Laws.{square_root-of}
-use Rattle.method.specs.Root.Patterns.{field_count, bits-count}
+use Rattle.method.proofs.Root.Grid.{less_or_not}
+use Rattle.method.proofs.Root.Laws.{square_root-of}
+use Rattle.method.specs.Root.Patterns.{field_count}
+use Rattle.method.proofs.Root.Patterns.{bits-count}
 use Rattle.method.specs.Floats.{negative}
 use Rattle.float.proofs.Signs.{bits-signed}
 use Rattle.float.proofs.Joined.{bits_positive}

@@ -11,12 +11,13 @@ use lib.Ieee.Bits.{of_bits-fits}
 use lib.Ieee.Digits.{size-lt, size-le}
 use lib.Ieee.Positive.{positive, first_pos, positive_of_value}
 use Rattle.method.specs.Root.{dropped, count, square, rooted}
-use Rattle.method.specs.Root.Whole.{four_pow}
-use Rattle.method.specs.Root.Laws.{square_root-of}
-use Rattle.method.specs.Root.Written.{pow_lt_back}
+use Rattle.method.proofs.Root.Whole.{four_pow}
+use Rattle.method.proofs.Root.Laws.{square_root-of}
+use Rattle.method.proofs.Root.Written.{pow_lt_back}
 use Rattle.method.specs.Root.Paper.{Line, start, first, turns, rounded, halved}
-use Rattle.method.specs.Root.Page.{page-last, page-root}
-use Rattle.method.specs.Root.Patterns.{field_count, bits-val, bits-count}
+use Rattle.method.proofs.Root.Page.{page-last, page-root}
+use Rattle.method.specs.Root.Patterns.{field_count}
+use Rattle.method.proofs.Root.Patterns.{bits-val, bits-count}
 
 -- ---- what the code has of the square n: n is X * 2 ^ (2 * h + 52), where X has 53 or 54 digits
 module _ (n X h : ℕ) (lo : 2 ^ 52 ≤ X) (hi : X < 2 ^ 54) (is : n ≡ X * 2 ^ (h + h + 52)) where

@@ -8,7 +8,8 @@ use lib.Pow.{pow_mono, pow-add}
 use lib.Ieee.{binary64, of_bits}
 use lib.Ieee.Positive.{first_pos}
 use Rattle.method.specs.Root.{count}
-use Rattle.method.specs.Root.Patterns.{field_count, bits-count}
+use Rattle.method.specs.Root.Patterns.{field_count}
+use Rattle.method.proofs.Root.Patterns.{bits-count}
 
 -- the number n, times 2 ^ 1022, is digits * 2 ^ power
 pub record Level (n digits power : ℕ) : Type 0 where

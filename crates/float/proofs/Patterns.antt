@@ -5,7 +5,7 @@ use Prim.Native.Nat.{ℕ, ◌%◌, ◌<◌}
 use borrow.Author.Tests.{lt-ltb}
 use lib.Ieee.{Float, nan, inf, fin, binary64, of_bits, to_bits, is_nan, ne, div}
 use lib.Ieee.Bits.{nan_bits_is, nan_bits_above}
-use Rattle.method.specs.Nans.{at-nan}
+use Rattle.method.proofs.Nans.{at-nan}
 
 is_nan_lem : (x : Float) → is_nan x ≡ true → x ≡ nan
 unfolding is_nan

@@ -6,7 +6,8 @@ use Prim.Native.Nat.{ℕ, suc, ◌+◌, ◌-◌, ◌*◌, ◌/◌, ◌^◌, ◌�
 use native.Mathlib.Omega.{arith}
 use borrow.Author.Tests.{le-leb, lt-leb}
 use Rattle.method.specs.Root.Paper.{Line, line, first, turn, turns, rounded}
-use Rattle.method.specs.Root.Turns.{Found, first_found, turns-found, last_found}
+use Rattle.method.specs.Root.Turns.{Found}
+use Rattle.method.proofs.Root.Turns.{first_found, turns-found, last_found}
 
 -- ---- a turn
 by_test : {A : Type 0} (b c : Bool) (x y : A) → b ≡ c → cond b x y ≡ cond c x y

@@ -11,8 +11,9 @@ use Rattle.method.specs.Floats.{plus_zero}
 use Rattle.method.specs.Root.{square, square_root}
 use Rattle.method.specs.Root.Paper as Paper
 use Rattle.method.specs.Root.Paper.{first, turn, turns, rounded, halved, page}
-use Rattle.method.specs.Root.Turns.{Found, midpoints}
-use Rattle.method.specs.Root.Page.{page-first, page-turn, page-last, page-found, page-digits, page-root, number-exact, number_bound}
+use Rattle.method.specs.Root.Turns.{Found}
+use Rattle.method.proofs.Root.Turns.{midpoints}
+use Rattle.method.proofs.Root.Page.{page-first, page-turn, page-last, page-found, page-digits, page-root, number-exact, number_bound}
 use Rattle.float.specs.Values.{line_in, start_in}
 use Rattle.float.specs.Root.{AnF64, f64_fits, is_positive}
 use Rattle.float.specs.declared.paper.Line.{Line}

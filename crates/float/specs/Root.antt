@@ -14,9 +14,9 @@ use Rattle.std.specs.Borrow.{f64}
 use denote.Laws.{Is}
 use Rattle.method.specs.Floats.{plus_zero}
 use Rattle.method.specs.Root.{square_root, Nearest, Enclosed}
-use Rattle.method.specs.Root.Laws.{square_root-nearest, nearest_unique}
-use Rattle.method.specs.Root.Enclosing.{square_root-enclosed}
-use Rattle.method.specs.Root.Special.{square_root-below_zero}
+use Rattle.method.proofs.Root.Laws.{square_root-nearest, nearest_unique}
+use Rattle.method.proofs.Root.Enclosing.{square_root-enclosed}
+use Rattle.method.proofs.Root.Special.{square_root-below_zero}
 
 -- ---- what an f64 is
 

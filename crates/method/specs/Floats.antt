@@ -1,12 +1,10 @@
 -- The numbers that the method writes out, and four of its five helpers on floats: magnitude, sign, smaller and larger.
 -- (The fifth, the square root, is in Root.) They turn on no format: each hands back one of its arguments, its
 -- magnitude, or 1 with its sign. Besides, whether the sign bit is set, a float with another's sign, and whether a float
--- is zero. Definitions, and that the patterns the code writes stand for these numbers. Assumes nothing.
-pub mod Laws
-pub mod Zero
-use Rattle.std.specs.Prelude.{◌≡◌, refl, Bool, true, false, pos, eqb, Float}
-use Rattle.std.specs.Float.{nan, inf, fin, binary64}
-use Rattle.std.specs.Float.Ieee.{lt, is_nan, neg, of_bits}
+-- is zero. Definitions only.
+use Rattle.std.specs.Prelude.{Bool, true, false, pos, eqb, Float}
+use Rattle.std.specs.Float.{nan, inf, fin}
+use Rattle.std.specs.Float.Ieee.{lt, is_nan, neg}
 
 -- +0, 1 and 2
 abbrev pub plus_zero : Float
@@ -63,16 +61,3 @@ smaller x y = pick (is_nan x) y (pick (lt y x) y x)
 -- the larger of the two, likewise
 unfoldable pub larger : Float → Float → Float
 larger x y = pick (is_nan x) y (pick (lt x y) y x)
-
--- the patterns of +0, 1 and 2 in a double
-pub plus_zero-64 : of_bits binary64 0 ≡ plus_zero
-unfolding of_bits
-plus_zero-64 = refl
-
-pub one-64 : of_bits binary64 0x3ff0_0000_0000_0000 ≡ one
-unfolding of_bits
-one-64 = refl
-
-pub two-64 : of_bits binary64 0x4000_0000_0000_0000 ≡ two
-unfolding of_bits
-two-64 = refl

@@ -1,13 +1,9 @@
--- The method: what a reader must believe, and what follows from it.
+-- The method: what a reader must believe. Definitions only; what is proved of them is in proofs/.
 pub mod Floats
-pub mod Nans
 pub mod Root
 pub mod Repeated
-pub mod Index
-pub mod Writes
 pub mod Rotation
 pub mod Signs
-pub mod Finite
 pub mod Reflection
 pub mod Work
 pub mod Bidiagonal
@@ -29,5 +25,4 @@ pub mod Defaults
 pub mod Cases
 pub mod Lengths
 pub mod Relation
-pub mod Same
 pub mod Rows

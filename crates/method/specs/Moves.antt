@@ -1,7 +1,6 @@
 -- The turns of a sweep as a list of moves: which lines are turned, in how many entries, and from which two numbers the
 -- rotation is made. A sweep computes one rotation for each move of its list, whatever the rotation turns: the table's
 -- lines, and with them columns of U or V. Definitions only.
-pub mod Laws
 use Rattle.std.specs.Prelude.{Bool, not, List, [], ◌∷◌, ◌++◌, ℕ, zero, suc, ◌+◌, length, Float}
 use Rattle.std.specs.Float.{Format}
 use Rattle.std.specs.Float.Ieee.{sub, mul}

@@ -3,7 +3,6 @@
 -- Definitions only.
 pub mod Places
 pub mod Sizes
-pub mod Columns
 use Rattle.std.specs.Prelude.{Bool, ◌&&◌, ◌||◌, List, ℕ, ◌+◌, ◌*◌, ltb, get_or, set, replicate, Float}
 use Rattle.std.specs.Float.Ieee.{lt, eq}
 use Rattle.method.specs.Floats.{pick, magnitude, signed}

@@ -1,10 +1,7 @@
 -- The outcome of the ordered call (rule 9.4), for every input: the first refusal before the run that applies, with all
 -- lists as they were; else the accumulating run, and then the first refusal after it, with report and lists as the run
 -- has them and the list of values as it was; else values, U and V in order. Definitions only.
-pub mod Ways
 pub mod Numbers
-pub mod Laws
-pub mod Cases
 use Rattle.std.specs.Prelude.{Bool, true, false, not, ◌&&◌, List, [], ◌∷◌, ◌++◌, ℕ, eqb, length, Float}
 use Rattle.std.specs.Float.{Format}
 use Rattle.std.specs.Float.Ieee.Scale.{finite}

@@ -1,8 +1,6 @@
 -- The whole outcome of each public call, for every input (document 003, and the table of rule 2.1): the first refusal
 -- that applies, with all lists as they were, or the accepted run's report and lists. Definitions only.
 pub mod Reports
-pub mod Refused
-pub mod Calls
 use Rattle.std.specs.Prelude.{Bool, true, false, List, [], ℕ, ◌-◌, leb, eqb, Float}
 use Rattle.std.specs.Float.{Format}
 use Rattle.method.specs.Floats.{pick}

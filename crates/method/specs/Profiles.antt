@@ -2,9 +2,7 @@
 -- profile's number picks, and the outcome of the calls by that number, for every input. Definitions only.
 pub mod Table
 pub mod Nearest
-pub mod Ways
 pub mod Numbers
-pub mod Cases
 use Rattle.std.specs.Prelude.{Bool, true, false, ◌||◌, List, [], ◌∷◌, ◌++◌, ℕ, ◌-◌, ◌^◌, eqb, ltb, length, get_or, Float}
 use Rattle.std.specs.Float.{Format}
 use Rattle.std.specs.Float.Ieee.{round}

@@ -1,9 +1,6 @@
 -- A quiet corner: every coupling inside the live corner of range r is +0 or -0. The couplings inside it are r - 1: that
 -- of each 2 x 2 whose top left is entry (k, k), k + 1 below r, so right of the diagonal in the upper form and below it
 -- in the lower. Definitions only.
-pub mod Laws
-pub mod Drops
-pub mod Cases
 pub mod Zeros
 pub mod Calm
 use Rattle.std.specs.Prelude.{◌≡◌, Bool, true, ◌&&◌, List, ℕ, ◌+◌, ◌-◌, ◌<◌, Float}

@@ -6,15 +6,9 @@ pub mod Whole
 pub mod Grid
 pub mod Counts
 pub mod Patterns
-pub mod Laws
-pub mod Written
 pub mod Neighbours
-pub mod Enclosing
-pub mod Special
 pub mod Paper
 pub mod Turns
-pub mod Page
-pub mod Cases
 use Rattle.std.specs.Prelude.{ℕ, zero, suc, ◌+◌, ◌-◌, ◌*◌, ◌/◌, ◌^◌, ◌<◌, true, false, cond, T, leb, Float}
 use Rattle.std.specs.Float.{nan, inf, fin, Format}
 use Rattle.std.specs.Float.Ieee.{prec, low, up, down, size, odd, fits, of_bits, to_bits}

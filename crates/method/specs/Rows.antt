@@ -1,10 +1,7 @@
 -- Each row of U and of V goes its own way (rule 9.5): what is said of the rows of two calls, and of one row.
 -- Definitions only.
-pub mod Steps
 pub mod Zeros
-pub mod Runs
 pub mod Moved
-pub mod Calls
 pub mod Ordered
 pub mod Cases
 use Rattle.std.specs.Prelude.{◌≡◌, ◌⊎◌, true, List, [], ◌++◌, ℕ, ◌<◌, eqb, length, get_or, Float}

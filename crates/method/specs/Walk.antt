@@ -4,7 +4,6 @@
 -- what is true of the walk is said once, for every number type. Definitions only.
 pub mod Run
 pub mod Counts
-pub mod Limits
 pub mod Alike
 pub mod Loop
 pub mod Applied

@@ -1,2 +1,2 @@
-// The method as definitions and laws, all of them in specs/: there is no code here.
+// The method as definitions, in specs/, and what is proved of them, in proofs/: there is no code here.
 #![tactic(auto)]

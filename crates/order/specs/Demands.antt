@@ -13,7 +13,7 @@ use Rattle.method.specs.Settings.{most_limit}
 use Rattle.method.specs.Checks.{nowhere, Refusal}
 use Rattle.method.specs.Checks.First.{First}
 use Rattle.method.specs.Checks.Readings.{FirstBad}
-use Rattle.method.specs.Checks.Table.{none-counted}
+use Rattle.method.proofs.Checks.Table.{none-counted}
 use Rattle.method.specs.Report as Report
 use Rattle.method.specs.Report.{refused}
 use Rattle.method.specs.Outcome.{Outcome, outcome_of, card, accepted}
@@ -21,10 +21,11 @@ use Rattle.method.specs.Outcome.Reports.{at_limit}
 use Rattle.method.specs.Order.{diagonal, ahead, new_place, old_positions, old_position, columns_moved}
 use Rattle.method.specs.Order.Sizes.{LargestFirst}
 use Rattle.method.specs.Ordered.{ordered_of, refused_after, ordered_outcome}
-use Rattle.method.specs.Ordered.Numbers.{ordered_meanings, after_meanings, ordered-numbers, sorts}
-use Rattle.method.specs.Ordered.Laws as Laws
+use Rattle.method.specs.Ordered.Numbers.{ordered_meanings}
+use Rattle.method.proofs.Ordered.Numbers.{after_meanings, ordered-numbers, sorts}
+use Rattle.method.proofs.Ordered.Laws as Laws
 use Rattle.method.specs.Rows.{Side, size_of, row_at, OwnRows, ZeroRow, exchanged}
-use Rattle.method.specs.Rows.Ordered.{orders_own, orders_zero, orders_exchanged}
+use Rattle.method.proofs.Rows.Ordered.{orders_own, orders_zero, orders_exchanged}
 use Rattle.checks.specs.declared.settings.Settings.{Settings}
 use Rattle.checks.specs.Values.{settings_of, place_in, refusal_in}
 use Rattle.svd.specs.declared.report.Report.{Report}

@@ -3,9 +3,9 @@ use Rattle.std.specs.Prelude.{◌≡◌, refl, Bool, true, false, ◌&&◌, ◌|
 use Rattle.std.proofs.Common.{sym, ◌∙◌, arith}
 use Rattle.std.specs.Float.Ieee.{lt, eq}
 use Rattle.method.specs.Floats.{pick, magnitude}
-use Rattle.method.specs.Index.{row_in, few}
+use Rattle.method.proofs.Index.{row_in, few}
 use Rattle.method.specs.Order.{ahead, how_many}
-use Rattle.method.specs.Order.Places.{count_next}
+use Rattle.method.proofs.Order.Places.{count_next}
 use Rattle.order.specs.Room.{Room, Within}
 
 -- entry i of the diagonal lies in b, and not far

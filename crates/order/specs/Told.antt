@@ -5,16 +5,16 @@ use Rattle.std.proofs.Common.{sym, ap, ◌∙◌, inl, inr}
 use Rattle.std.specs.Float.{binary64}
 use Rattle.method.specs.Work.{Work}
 use Rattle.method.specs.Walk as Walk
-use Rattle.method.specs.Checks.Table.{TruePlace}
+use Rattle.method.proofs.Checks.Table.{TruePlace}
 use Rattle.method.specs.Report as Report
 use Rattle.method.specs.Report.{refused}
 use Rattle.method.specs.Outcome.{Outcome, outcome_of, accepted, outcome}
-use Rattle.method.specs.Outcome.Refused.{accepted-outcome}
+use Rattle.method.proofs.Outcome.Refused.{accepted-outcome}
 use Rattle.method.specs.Ordered.{Ordered, ordered_of, ordered_refusal, refused_after, ordered_outcome}
-use Rattle.method.specs.Ordered.Ways.{refused-before, ran_on, found_after, refused-after}
-use Rattle.method.specs.Ordered.Numbers.{answers, ordered-before, ordered-after, ordered-found, answer-place, lent_none}
-use Rattle.method.specs.Ordered.Numbers.{sorts}
-use Rattle.method.specs.Ordered.Laws as Laws
+use Rattle.method.proofs.Ordered.Ways.{refused-before, ran_on, found_after, refused-after}
+use Rattle.method.proofs.Ordered.Numbers.{answers, ordered-before, ordered-after, ordered-found, answer-place, lent_none}
+use Rattle.method.proofs.Ordered.Numbers.{sorts}
+use Rattle.method.proofs.Ordered.Laws as Laws
 use Rattle.checks.specs.declared.settings.Settings.{Settings}
 use Rattle.checks.specs.Values.{settings_of, refusal_in}
 use Rattle.svd.specs.declared.report.Report.{Report}

@@ -3,20 +3,22 @@ use Rattle.std.specs.Prelude.{◌≡◌, refl, true, false, List, ℕ, ◌≤◌
 use Rattle.std.proofs.Common.{sym, ap, ◌∙◌, inl, inr, mul-le-mul_right, le_of_eq, le_trans, get_or-take}
 use Rattle.std.specs.Float.{binary64}
 use Rattle.method.specs.Work.{Work, work}
-use Rattle.method.specs.Lengths.{SameLengths, outcome-lengths}
+use Rattle.method.specs.Lengths.{SameLengths}
+use Rattle.method.proofs.Lengths.{outcome-lengths}
 use Rattle.method.specs.Settings.{Settings, most_size}
 use Rattle.method.specs.Checks.{Refusal, first_of, refusal_of}
-use Rattle.method.specs.Checks.Tests.{few, equal}
+use Rattle.method.proofs.Checks.Tests.{few, equal}
 use Rattle.method.specs.Report.{Report, refused}
 use Rattle.method.specs.Outcome.{Outcome, outcome_of, card, full_outcome}
-use Rattle.method.specs.Outcome.Refused.{refused-outcome, accepted-outcome, outcome-number}
-use Rattle.method.specs.Outcome.Reports.{card-le}
+use Rattle.method.proofs.Outcome.Refused.{refused-outcome, accepted-outcome, outcome-number}
+use Rattle.method.proofs.Outcome.Reports.{card-le}
 use Rattle.method.specs.Order.{diagonal, old_positions, values_by, columns_moved}
-use Rattle.method.specs.Order.Sizes.{Finite, positions_first}
+use Rattle.method.specs.Order.Sizes.{Finite}
+use Rattle.method.proofs.Order.Sizes.{positions_first}
 use Rattle.method.specs.Ordered.{Ordered, ordered_of, lent_checks, ordered_refusal, run_checks, refused_after, put_in_order}
 use Rattle.method.specs.Ordered.{ordered_outcome}
-use Rattle.method.specs.Ordered.Ways.{lent_refused, lent_passed, refused-before, ran_on, refused-after, put_in_order_lem}
-use Rattle.method.specs.Ordered.Numbers.{lent_fit, run-fine}
+use Rattle.method.proofs.Ordered.Ways.{lent_refused, lent_passed, refused-before, ran_on, refused-after, put_in_order_lem}
+use Rattle.method.proofs.Ordered.Numbers.{lent_fit, run-fine}
 use Rattle.order.specs.Room.{Room, Within, Fits, listed, signs_by, Moved, in_order, in_order_by}
 
 -- ---- sizes and room

@@ -6,7 +6,7 @@ use Rattle.std.proofs.Math.ListN.{get_or-map}
 use Rattle.std.specs.Float.{nan, binary64}
 use Rattle.method.specs.Profiles as Method
 use Rattle.method.specs.Profiles.{profile, decimal, profiles, floor_of, value_in, settings_in, no_profile, picked_of, picked}
-use Rattle.method.specs.Profiles.Table.{there, picked-there}
+use Rattle.method.proofs.Profiles.Table.{there, picked-there}
 use Rattle.checks.specs.declared.settings.Settings.{Settings}
 use Rattle.checks.specs.Values.{settings_of}
 use Rattle.profiles.specs.declared.Profile.{Profile}

@@ -11,11 +11,12 @@ use Rattle.std.specs.Float.Ieee.{binary64}
 use Rattle.std.specs.Float.Ieee.Scale.{finite}
 use Rattle.method.specs.Work.{work}
 use Rattle.method.specs.Checks.{Place, bad_readings, refusal}
-use Rattle.method.specs.Checks.Readings.{AllGood, BadReading, FirstBad, first-bad, none-bad, all_finite_lem}
-use Rattle.method.specs.Index.{inside}
+use Rattle.method.specs.Checks.Readings.{AllGood, BadReading, FirstBad}
+use Rattle.method.proofs.Checks.Readings.{first-bad, none-bad, all_finite_lem}
+use Rattle.method.proofs.Index.{inside}
 use Rattle.method.specs.Report.{refused}
 use Rattle.method.specs.Outcome.{Outcome, outcome_of, plain_outcome, accepted}
-use Rattle.method.specs.Outcome.Refused.{accepted-number}
+use Rattle.method.proofs.Outcome.Refused.{accepted-number}
 use Rattle.method.specs.Defaults.{defaults}
 use Rattle.text.specs.Text.{Bytes, shown, line_text}
 use Rattle.survey.specs.declared.reading.Entry.{Entry}

@@ -12,12 +12,14 @@ use Rattle.method.specs.Checks.{Place, bad_readings, Refusal, refusal, refusal_o
 use Rattle.method.specs.Report.{Report, refused}
 use Rattle.method.specs.Outcome.{Outcome, outcome_of, card, plain_outcome, accepted}
 use Rattle.method.specs.Defaults.{defaults, default_tolerance, default_absolute, default_floor}
-use Rattle.method.specs.Outcome.Reports.{accepted-true, card-most}
-use Rattle.method.specs.Checks.Readings.{AllGood, BadReading, bad_count, bad_most, good_or_bad}
+use Rattle.method.proofs.Outcome.Reports.{accepted-true, card-most}
+use Rattle.method.specs.Checks.Readings.{AllGood, BadReading}
+use Rattle.method.proofs.Checks.Readings.{bad_count, bad_most, good_or_bad}
 use Rattle.method.specs.Checks.First.{None}
-use Rattle.method.specs.Checks.Table.{NoSize, TooLarge, OverLimit, UnfitBounds, length_meanings, clear, eight_given, eight_found, numbers-few, true_place}
-use Rattle.method.specs.Outcome.Refused.{refused-outcome, accepted-outcome}
-use Rattle.method.specs.Lengths.{outcome-lengths}
+use Rattle.method.specs.Checks.Table.{NoSize, TooLarge, OverLimit, UnfitBounds, length_meanings}
+use Rattle.method.proofs.Checks.Table.{clear, eight_given, eight_found, numbers-few, true_place}
+use Rattle.method.proofs.Outcome.Refused.{refused-outcome, accepted-outcome}
+use Rattle.method.proofs.Lengths.{outcome-lengths}
 use Rattle.survey.specs.Code.{Small}
 
 -- a table of a survey: 1 to 48 rows and columns, and all its readings

@@ -6,15 +6,17 @@ use mathlib.Core.List.{List, [], ◌∷◌}
 use Rattle.std.specs.Float.Ieee.{binary64}
 use Rattle.method.specs.Floats.{pick}
 use Rattle.method.specs.Work.{Work, Shape, work, packed}
-use Rattle.method.specs.Lengths.{SameLengths, outcome-lengths}
+use Rattle.method.specs.Lengths.{SameLengths}
+use Rattle.method.proofs.Lengths.{outcome-lengths}
 use Rattle.method.specs.Walk.{Walk, stands}
 use Rattle.method.specs.Settings.{Settings, most_size}
 use Rattle.method.specs.Checks.{Refusal, refusal_of}
-use Rattle.method.specs.Checks.Table.{Fit, fit}
+use Rattle.method.specs.Checks.Table.{Fit}
+use Rattle.method.proofs.Checks.Table.{fit}
 use Rattle.method.specs.Report.{Report, refused, reported}
-use Rattle.method.specs.Report.Words.{reported-same}
+use Rattle.method.proofs.Report.Words.{reported-same}
 use Rattle.method.specs.Outcome.{Outcome, outcome_of, shown_by, card, is_upper, walked_from, accepted, outcome}
-use Rattle.method.specs.Outcome.Refused.{refused-outcome, accepted-outcome}
+use Rattle.method.proofs.Outcome.Refused.{refused-outcome, accepted-outcome}
 use Rattle.svd.specs.Values.{Lent, Lending, Inside}
 
 -- ---- the two ways out of a call

@@ -27,22 +27,25 @@ use Rattle.method.specs.Repeated.{carried_out}
 use Rattle.method.specs.Moves.{carried}
 use Rattle.method.specs.Chase.{coupling}
 use Rattle.method.specs.Quiet.{QuietCorner, BoundsAbove}
-use Rattle.method.specs.Quiet.Calm.{AllZero, tally_calm, Calm, calm}
+use Rattle.method.specs.Quiet.Calm.{AllZero, tally_calm, Calm}
+use Rattle.method.proofs.Quiet.Calm.{calm}
 use Rattle.method.specs.Settings.{most_limit, most_rotations}
 use Rattle.method.specs.Checks.{nowhere, refusal_of}
 use Rattle.method.specs.Checks.First.{First}
 use Rattle.method.specs.Checks.Readings.{FirstBad}
-use Rattle.method.specs.Checks.Table.{meanings, numbers, none-counted}
+use Rattle.method.specs.Checks.Table.{meanings}
+use Rattle.method.proofs.Checks.Table.{numbers, none-counted}
 use Rattle.method.specs.Report as Report
 use Rattle.method.specs.Report.{refused}
 use Rattle.method.specs.Outcome.{outcome_of, shown_by, card, is_upper, rules_for, form_of, accepted, outcome}
 use Rattle.method.specs.Outcome.{plain_outcome, full_outcome}
-use Rattle.method.specs.Outcome.Reports.{accepted-exposed, at_limit, settled_report, moves_made}
-use Rattle.method.specs.Outcome.Calls.{calls_agree, settled_stays}
+use Rattle.method.specs.Outcome.Reports.{at_limit, settled_report, moves_made}
+use Rattle.method.proofs.Outcome.Reports.{accepted-exposed}
+use Rattle.method.proofs.Outcome.Calls.{calls_agree, settled_stays}
 use Rattle.method.specs.Fill.{identity}
 use Rattle.method.specs.View.{row_of}
 use Rattle.method.specs.Rows.{Side, size_of, row_at, OwnRows, row_alone, ZeroRow, exchanged}
-use Rattle.method.specs.Rows.Calls.{calls_own, calls_alone, calls_zero, calls_exchanged}
+use Rattle.method.proofs.Rows.Calls.{calls_own, calls_alone, calls_zero, calls_exchanged}
 use Rattle.checks.specs.declared.settings.Settings.{Settings}
 use Rattle.checks.specs.Values.{settings_of, place_in, refusal_in}
 use Rattle.svd.specs.declared.report.Report.{Report}

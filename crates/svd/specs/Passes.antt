@@ -3,17 +3,21 @@ use Rattle.std.specs.Prelude.{◌≡◌, refl, Bool, true, false, ℕ, ◌+◌, 
 use Rattle.std.proofs.Common.{ap, ◌∙◌, zero-le, le_trans, mul-le-mul_left, mul-le-mul_right, arith, lit<}
 use Rattle.std.specs.Float.{binary64}
 use Rattle.method.specs.Work.{Work, Shape as Sizes, coupling_place}
-use Rattle.method.specs.Lengths.{SameLengths, onward, swept-lengths}
+use Rattle.method.specs.Lengths.{SameLengths}
+use Rattle.method.proofs.Lengths.{onward, swept-lengths}
 use Rattle.method.specs.Chase.{negligible, swept}
 use Rattle.method.specs.Walk as Walk
 use Rattle.method.specs.Walk.{State, stands, begun, run, after_drop, after_sweep}
-use Rattle.method.specs.Walk.Counts.{walked_same, enough-most}
-use Rattle.method.specs.Walk.Run.{Going, narrow, spent}
+use Rattle.method.proofs.Walk.Counts.{walked_same, enough-most}
+use Rattle.method.specs.Walk.Run.{Going}
+use Rattle.method.proofs.Walk.Run.{narrow, spent}
 use Rattle.method.specs.Moves.{sweep_rotations}
-use Rattle.method.specs.Moves.Laws.{rotations_most_lem}
-use Rattle.method.specs.Walk.Turns.{AtMost}
-use Rattle.method.specs.Walk.Loop.{Room, room-less, Made, made_none, made_drop, made_sweep, made_moved, made_room, made_all, made_end}
-use Rattle.method.specs.Positions.{Corner, Placed, corner_of, corner_dropped, start-placed, dropped-placed}
+use Rattle.method.proofs.Moves.Laws.{rotations_most_lem}
+use Rattle.method.proofs.Walk.Turns.{AtMost}
+use Rattle.method.specs.Walk.Loop.{Room, Made}
+use Rattle.method.proofs.Walk.Loop.{room-less, made_none, made_drop, made_sweep, made_moved, made_room, made_all, made_end}
+use Rattle.method.specs.Positions.{Corner, Placed, corner_of, corner_dropped}
+use Rattle.method.proofs.Positions.{start-placed, dropped-placed}
 use Rattle.method.specs.Outcome.{rules_of, card, is_upper, walked_from, rules_for}
 use Rattle.method.specs.Settings.{Settings, most_size, most_stride, most_limit, most_credit, most_passes}
 use Rattle.method.specs.Bidiagonal.{bidiagonal}

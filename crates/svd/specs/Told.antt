@@ -6,24 +6,28 @@ use Rattle.std.specs.Float.{binary64}
 use Rattle.std.proofs.lemmas.Bool.{eqb-false}
 use Rattle.method.specs.Work.{Work, packed}
 use Rattle.method.specs.Walk.{Tally, State, start, going}
-use Rattle.method.specs.Walk.Run.{going-true, ended}
-use Rattle.method.specs.Walk.Turns.{PassCounts, applied-counts}
-use Rattle.method.specs.Walk.Applied.{applied, Applied, walked-applied}
+use Rattle.method.proofs.Walk.Run.{going-true, ended}
+use Rattle.method.specs.Walk.Turns.{PassCounts}
+use Rattle.method.proofs.Walk.Turns.{applied-counts}
+use Rattle.method.specs.Walk.Applied.{applied, Applied}
+use Rattle.method.proofs.Walk.Applied.{walked-applied}
 use Rattle.method.specs.Checks as Checks
 use Rattle.method.specs.Checks.{refusal_of}
-use Rattle.method.specs.Checks.Table.{TruePlace, true_place, fit}
+use Rattle.method.proofs.Checks.Table.{TruePlace, true_place, fit}
 use Rattle.method.specs.Report as Report
 use Rattle.method.specs.Report.{refused}
 use Rattle.method.specs.Outcome.{Outcome, outcome_of, card, is_upper, rules_for, form_of, walked_from, accepted, outcome}
-use Rattle.method.specs.Outcome.Refused.{refused-outcome, accepted-outcome, outcome-refusal, outcome-number}
+use Rattle.method.proofs.Outcome.Refused.{refused-outcome, accepted-outcome, outcome-refusal, outcome-number}
 use Rattle.method.specs.Report.Words.{TrueWord}
-use Rattle.method.specs.Outcome.Reports.{TrueReport, accepted-true, accepted-word, settled_report, at_limit}
-use Rattle.method.specs.Outcome.Reports.{moves_made, accepted-turned}
-use Rattle.method.specs.Outcome.Calls.{quiet_settles, rotations_few}
+use Rattle.method.specs.Outcome.Reports.{TrueReport, settled_report, at_limit}
+use Rattle.method.proofs.Outcome.Reports.{accepted-true, accepted-word}
+use Rattle.method.specs.Outcome.Reports.{moves_made}
+use Rattle.method.proofs.Outcome.Reports.{accepted-turned}
+use Rattle.method.proofs.Outcome.Calls.{quiet_settles, rotations_few}
 use Rattle.method.specs.Settings.{most_limit, most_rotations}
 use Rattle.method.specs.Repeated.{carried_out}
 use Rattle.method.specs.Moves.{carried}
-use Rattle.method.specs.Moves.Laws.{rotations_are}
+use Rattle.method.proofs.Moves.Laws.{rotations_are}
 use Rattle.method.specs.Walk.Drops.{tally_down}
 use Rattle.method.specs.Quiet.{BoundsAbove}
 use Rattle.checks.specs.declared.settings.Settings.{Settings}

@@ -5,11 +5,13 @@ use Rattle.std.proofs.Common.{◌∙◌, arith}
 use Prim.Native.Nat.{ℕ, ◌+◌, ◌-◌, ◌≤◌, ◌<◌, zero-le}
 use Rattle.std.specs.Float.{binary64}
 use Rattle.method.specs.Work.{Work, work, Shape as Sizes}
-use Rattle.method.specs.Repeated.{repeated-more}
+use Rattle.method.proofs.Repeated.{repeated-more}
 use Rattle.method.specs.Bidiagonal.{column_reflection, row_reflection, column_matrix, row_matrix, factor_reflected}
-use Rattle.method.specs.Bidiagonal.{column_zeroed, row_zeroed, first_zeroed, places_zeroed, bidiagonal, bidiagonal-other}
+use Rattle.method.specs.Bidiagonal.{column_zeroed, row_zeroed, first_zeroed, places_zeroed, bidiagonal}
+use Rattle.method.proofs.Bidiagonal.{bidiagonal-other}
 use Rattle.svd.specs.Values.{Inside}
-use Rattle.method.specs.Chase.{pushed, steps, stepped-is}
+use Rattle.method.specs.Chase.{pushed, steps}
+use Rattle.method.proofs.Chase.{stepped-is}
 
 -- ---- the bidiagonal form
 

@@ -7,7 +7,7 @@ use Rattle.std.proofs.lemmas.Bool.{not-true, not-false}
 use Rattle.method.specs.Rotation.{Rotation as Turn}
 use Rattle.method.specs.Reflection.{Reflection}
 use Rattle.method.specs.Bidiagonal.{column_reflection, headed}
-use Rattle.method.specs.Index.{row_fits, rows_left, inside}
+use Rattle.method.proofs.Index.{row_fits, rows_left, inside}
 use Rattle.method.specs.Settings.{most_size, most_stride}
 use Rattle.method.specs.Work.{Work, Shape as Sizes}
 use Rattle.method.specs.Lengths.{SameLengths}

@@ -2,7 +2,7 @@
 use mathlib.Core.Path.{◌∙◌}
 use native.Mathlib.Omega.{arith}
 use borrow.Author.Rules.{rules}
-use Rattle.method.specs.Nans.{bits-no_nan}
+use Rattle.method.proofs.Nans.{bits-no_nan}
 use Rattle.float.proofs.Patterns.{zero_by_zero, nan_read}
 use Rattle.float.proofs.from_bits.Goals as goal
 

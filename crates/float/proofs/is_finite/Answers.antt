@@ -2,8 +2,9 @@
 use mathlib.Core.Path.{sym, ap, ◌∙◌}
 use mathlib.Core.Bool.{Bool, ◌&&◌}
 use lib.Ieee.{Float, binary64, lt, div}
-use Rattle.method.specs.Floats.{plus_zero, plus_zero-64, one, one-64}
-use Rattle.method.specs.Finite.{finite_test}
+use Rattle.method.specs.Floats.{plus_zero, one}
+use Rattle.method.proofs.Floats.{plus_zero-64, one-64}
+use Rattle.method.proofs.Finite.{finite_test}
 use Rattle.float.proofs.is_finite.Goals as goal
 
 -- the first test's answer, and then the second test

@@ -3,7 +3,7 @@ use mathlib.Core.Logic.{⊎_elim}
 use mathlib.Core.Path.{◌≡◌, refl}
 use lib.Ieee.{is_nan, lt}
 use Rattle.method.specs.Floats.{larger}
-use Rattle.method.specs.Nans.{at-nan, no_nan}
+use Rattle.method.proofs.Nans.{at-nan, no_nan}
 use Rattle.float.proofs.Signs.{first, second}
 use Rattle.float.proofs.larger.Goals.{then-x-via-then-x, then-x-via-else-x+then-x-y}
 use Rattle.float.proofs.larger.Goals as goal

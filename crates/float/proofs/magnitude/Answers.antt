@@ -2,7 +2,7 @@
 use mathlib.Core.Path.{◌≡◌, refl}
 use native.Mathlib.Omega.{arith}
 use Rattle.method.specs.Floats.{magnitude}
-use Rattle.method.specs.Nans.{at-nan, no_nan}
+use Rattle.method.proofs.Nans.{at-nan, no_nan}
 use Rattle.float.proofs.Signs.{held, cleared, cleared_no_nan}
 use Rattle.float.proofs.magnitude.Goals as goal
 

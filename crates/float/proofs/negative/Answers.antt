@@ -2,7 +2,7 @@
 use mathlib.Core.Path.{◌≡◌, refl, sym}
 use mathlib.Core.Bool.{false}
 use Rattle.method.specs.Floats.{negative}
-use Rattle.method.specs.Nans.{at-nan, no_nan}
+use Rattle.method.proofs.Nans.{at-nan, no_nan}
 use Rattle.float.proofs.Signs.{held, bits-signed}
 use Rattle.float.proofs.negative.Goals as goal
 

@@ -2,7 +2,7 @@
 use mathlib.Core.Path.{◌≡◌, refl}
 use lib.Ieee.{of_bits, neg}
 use Rattle.method.specs.Floats.{sign_of}
-use Rattle.method.specs.Nans.{at-nan, no_nan}
+use Rattle.method.proofs.Nans.{at-nan, no_nan}
 use Rattle.float.proofs.Signs.{held, sign_clear, sign_set}
 use Rattle.float.proofs.sign.Goals as goal
 

@@ -3,7 +3,7 @@ use mathlib.Core.Logic.{⊎_elim}
 use mathlib.Core.Path.{◌≡◌, refl}
 use lib.Ieee.{is_nan, lt}
 use Rattle.method.specs.Floats.{smaller}
-use Rattle.method.specs.Nans.{at-nan, no_nan}
+use Rattle.method.proofs.Nans.{at-nan, no_nan}
 use Rattle.float.proofs.Signs.{first, second}
 use Rattle.float.proofs.smaller.Goals.{then-x-via-then-x, then-x-via-else-x+then-y-x}
 use Rattle.float.proofs.smaller.Goals as goal

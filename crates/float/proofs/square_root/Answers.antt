@@ -6,7 +6,7 @@ use native.Mathlib.Omega.{arith}
 use lib.Ieee.{binary64, of_bits, neg}
 use borrow.Author.Rules.{rules}
 use Rattle.method.specs.Root.{square_root}
-use Rattle.method.specs.Nans.{at-nan, no_nan, bits-no_nan}
+use Rattle.method.proofs.Nans.{at-nan, no_nan, bits-no_nan}
 use Rattle.float.proofs.Signs.{held}
 use Rattle.float.proofs.Patterns.{zero_by_zero}
 use Rattle.float.proofs.Cases.{at-pattern, at-positive, at-negative}

@@ -4,7 +4,7 @@ use borrow.Author.Rules.{rules}
 use mathlib.Core.Path.{sym, ◌∙◌}
 use native.Mathlib.Omega.{arith}
 use lib.Ieee.{of_bits, round, binary64}
-use Rattle.method.specs.Profiles.Table.{picked_none}
+use Rattle.method.proofs.Profiles.Table.{picked_none}
 use Rattle.profiles.specs.Table.{numbered, entry}
 use Rattle.profiles.proofs.pick.Goals as goal
 

@@ -10,7 +10,7 @@ use lib.Ieee.{binary64}
 use Rattle.method.specs.Work.{work}
 use Rattle.method.specs.Outcome.{Outcome, outcome_of, plain_outcome}
 use Rattle.method.specs.Defaults.{defaults}
-use Rattle.method.specs.Lengths.{outcome-lengths}
+use Rattle.method.proofs.Lengths.{outcome-lengths}
 use Rattle.svd.specs.Values.{report_of}
 use Rattle.survey.proofs.decomposed.Goals as goal
 

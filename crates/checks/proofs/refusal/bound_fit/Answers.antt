@@ -1,7 +1,7 @@
 -- `bound_fit` meets its contract: by whether x is finite. Assumes nothing.
 use borrow.Author.Rules.{rules}
 use mathlib.Core.Path.{refl}
-use Rattle.method.specs.Floats.{plus_zero-64}
+use Rattle.method.proofs.Floats.{plus_zero-64}
 use Rattle.checks.proofs.refusal.bound_fit.Goals as goal
 
 pub returns-then-is_finite : goal.returns-then-is_finite

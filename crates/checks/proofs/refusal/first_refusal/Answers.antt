@@ -3,8 +3,8 @@
 use borrow.Author.Rules.{rules}
 use mathlib.Core.Path.{refl}
 use Rattle.method.specs.Work.{work}
-use Rattle.method.specs.Checks.First.{first-here, first-beyond}
-use Rattle.method.specs.Checks.Table.{table-passed}
+use Rattle.method.proofs.Checks.First.{first-here, first-beyond}
+use Rattle.method.proofs.Checks.Table.{table-passed}
 use Rattle.checks.proofs.refusal.first_refusal.Goals as goal
 
 pub returns-then-of_table-ne0 : goal.returns-then-of_table-ne0

@@ -3,8 +3,8 @@
 use borrow.Author.Rules.{rules}
 use mathlib.Core.Path.{sym, ◌∙◌}
 use native.Mathlib.Omega.{arith}
-use Rattle.method.specs.Index.{few}
-use Rattle.method.specs.Checks.First.{first-hit, first-miss, first-none}
+use Rattle.method.proofs.Index.{few}
+use Rattle.method.proofs.Checks.First.{first-hit, first-miss, first-none}
 use Rattle.checks.proofs.refusal.length_refusal.Goals as goal
 
 pub overflow_mul-rows : goal.overflow_mul-rows

@@ -2,7 +2,7 @@
 -- list that has one. Assumes nothing.
 use borrow.Author.Rules.{rules}
 use mathlib.Core.Path.{refl}
-use Rattle.method.specs.Checks.First.{first-here, first-beyond}
+use Rattle.method.proofs.Checks.First.{first-here, first-beyond}
 use Rattle.checks.proofs.refusal.lent_refusal.Goals as goal
 
 pub returns-then-of_table-ne0 : goal.returns-then-of_table-ne0

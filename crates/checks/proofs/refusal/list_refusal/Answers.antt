@@ -1,7 +1,7 @@
 -- `list_refusal` meets its contract: its one check. Assumes nothing.
 use borrow.Author.Rules.{rules}
 use mathlib.Core.Path.{sym, ◌∙◌}
-use Rattle.method.specs.Checks.First.{first-hit, first-miss, first-none}
+use Rattle.method.proofs.Checks.First.{first-hit, first-miss, first-none}
 use Rattle.checks.proofs.refusal.list_refusal.Goals as goal
 
 pub returns-then-wrong_length : goal.returns-then-wrong_length

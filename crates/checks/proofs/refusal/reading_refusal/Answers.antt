@@ -3,7 +3,7 @@ use borrow.Author.Rules.{rules}
 use mathlib.Core.Path.{sym, ap, ◌∙◌}
 use borrow.Author.Tests.{lt-ltb, le-ltb}
 use Rattle.method.specs.Checks.{Place, refusal}
-use Rattle.method.specs.Checks.First.{first-hit, first-miss, first-none}
+use Rattle.method.proofs.Checks.First.{first-hit, first-miss, first-none}
 use Rattle.checks.proofs.refusal.reading_refusal.Goals as goal
 
 pub returns-then-place-gt0 : goal.returns-then-place-gt0

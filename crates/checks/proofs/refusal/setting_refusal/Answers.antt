@@ -1,7 +1,7 @@
 -- `setting_refusal` meets its contract: one check after the other, as the definition has them. Assumes nothing.
 use borrow.Author.Rules.{rules}
 use mathlib.Core.Path.{sym, ◌∙◌}
-use Rattle.method.specs.Checks.First.{first-hit, first-miss, first-none}
+use Rattle.method.proofs.Checks.First.{first-hit, first-miss, first-none}
 use Rattle.checks.proofs.refusal.setting_refusal.Goals as goal
 
 pub returns-then-over_limit : goal.returns-then-over_limit

@@ -2,8 +2,8 @@
 -- list that has one. Assumes nothing.
 use borrow.Author.Rules.{rules}
 use mathlib.Core.Path.{refl}
-use Rattle.method.specs.Checks.First.{first-here, first-beyond}
-use Rattle.method.specs.Checks.Table.{sizes-passed}
+use Rattle.method.proofs.Checks.First.{first-here, first-beyond}
+use Rattle.method.proofs.Checks.Table.{sizes-passed}
 use Rattle.checks.proofs.refusal.table_refusal.Goals as goal
 
 pub returns-then-of_sizes-ne0 : goal.returns-then-of_sizes-ne0

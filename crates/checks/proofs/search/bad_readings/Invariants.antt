@@ -6,10 +6,11 @@ use native.Mathlib.Omega.{arith}
 use native.Mathlib.Nat.{le_antisymm, mul-le-mul}
 use Rattle.method.specs.Settings.{most_size}
 use Rattle.method.specs.Work.{at}
-use Rattle.method.specs.Repeated.{repeated, repeated-none, repeated-more}
+use Rattle.method.specs.Repeated.{repeated}
+use Rattle.method.proofs.Repeated.{repeated-none, repeated-more}
 use Rattle.method.specs.Checks.{Place, nowhere, looked, bad_readings}
-use Rattle.method.specs.Checks.Readings.{row_most, bad_most}
-use Rattle.method.specs.Index.{row_in}
+use Rattle.method.proofs.Checks.Readings.{row_most, bad_most}
+use Rattle.method.proofs.Index.{row_in}
 use Rattle.checks.specs.Values.{place_in}
 use Rattle.checks.proofs.search.bad_readings.Given as goal
 

@@ -1,5 +1,5 @@
 -- `smaller_size` meets its contract: by the test. Assumes nothing.
-use Rattle.method.specs.Ordered.Numbers.{card-cols, card-rows}
+use Rattle.method.proofs.Ordered.Numbers.{card-cols, card-rows}
 use Rattle.checks.proofs.sizes.smaller_size.Goals as goal
 
 pub returns-then-cols-rows : goal.returns-then-cols-rows

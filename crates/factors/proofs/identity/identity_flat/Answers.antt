@@ -1,8 +1,9 @@
 -- `identity_flat` meets its contract: one check after another, then the zeros and the ones. Assumes nothing.
 use borrow.Author.Rules.{rules}
 use native.Mathlib.Omega.{arith}
-use Rattle.method.specs.Index.{few}
-use Rattle.method.specs.Fill.Numbers.{FillFit, fill_one, fill_two, fill_four}
+use Rattle.method.proofs.Index.{few}
+use Rattle.method.specs.Fill.Numbers.{FillFit}
+use Rattle.method.proofs.Fill.Numbers.{fill_one, fill_two, fill_four}
 use Rattle.factors.specs.Fill.{fill_with, fill_done}
 use Rattle.factors.proofs.identity.identity_flat.Goals as goal
 

@@ -5,10 +5,12 @@ use mathlib.Core.Path.{◌≡◌, refl, ap, ◌∙◌}
 use native.Mathlib.Omega.{arith}
 use native.Mathlib.Nat.{le_antisymm}
 use lib.ListN.{length, length-set, length-replicate, set}
-use Rattle.method.specs.Repeated.{repeated, repeated-none, repeated-next}
+use Rattle.method.specs.Repeated.{repeated}
+use Rattle.method.proofs.Repeated.{repeated-none, repeated-next}
 use Rattle.method.specs.Fill.{identity}
-use Rattle.method.specs.Floats.{one, one-64, plus_zero}
-use Rattle.method.specs.Index.{row_in, few}
+use Rattle.method.specs.Floats.{one, plus_zero}
+use Rattle.method.proofs.Floats.{one-64}
+use Rattle.method.proofs.Index.{row_in, few}
 use Rattle.factors.specs.View.{Room}
 use Rattle.factors.proofs.identity.ones.Given as goal
 

@@ -6,7 +6,8 @@ use mathlib.Core.List.{◌++◌}
 use native.Mathlib.Omega.{arith}
 use native.Mathlib.Nat.{le_antisymm}
 use lib.ListN.{length, length-set, drop, replicate}
-use Rattle.method.specs.Floats.{plus_zero, plus_zero-64}
+use Rattle.method.specs.Floats.{plus_zero}
+use Rattle.method.proofs.Floats.{plus_zero-64}
 use Rattle.factors.specs.Fill.{zeros-more, zeros-all}
 use Rattle.factors.proofs.identity.zeros.Goals as goal
 

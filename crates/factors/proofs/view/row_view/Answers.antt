@@ -3,7 +3,8 @@ use borrow.Author.Rules.{rules}
 use mathlib.Core.Path.{sym, ◌∙◌}
 use native.Mathlib.Omega.{arith}
 use borrow.Author.Tests.{not-true, not-false}
-use Rattle.method.specs.View.Rows.{ViewFit, view_fit_lem}
+use Rattle.method.specs.View.Rows.{ViewFit}
+use Rattle.method.proofs.View.Rows.{view_fit_lem}
 use Rattle.factors.specs.View.{no_row, no_place, u_room, u_row, u_place, v_room, v_row, v_place}
 use Rattle.factors.proofs.view.row_view.Goals as goal
 

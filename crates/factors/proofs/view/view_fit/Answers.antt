@@ -5,7 +5,7 @@ use Prim.Native.Nat.{◌≤◌, ◌<◌}
 use native.Mathlib.Omega.{arith}
 use lib.Dec.{eqb}
 use Rattle.method.specs.Floats.{pick}
-use Rattle.method.specs.Index.{few}
+use Rattle.method.proofs.Index.{few}
 use Rattle.method.specs.View.{view_fit}
 use Rattle.method.specs.View.Rows.{ViewFit}
 use Rattle.factors.specs.View.{not_fit, fit_u, fit_v}

@@ -4,7 +4,7 @@ use mathlib.Core.Path.{◌≡◌, refl, ◌∙◌}
 use Prim.Native.Nat.{ℕ, ◌*◌, ◌/◌, ◌%◌, ◌^◌}
 use native.Mathlib.Omega.{arith}
 use lib.Ieee.{Float, nan, binary64, to_bits}
-use Rattle.method.specs.Nans.{at-nan, no_nan}
+use Rattle.method.proofs.Nans.{at-nan, no_nan}
 use Rattle.method.specs.Root.Paper.{start, halved}
 use Rattle.float.proofs.Signs.{held}
 use Rattle.float.proofs.Halves.{halved_none, halved-cleared, at_zero, past_finite}

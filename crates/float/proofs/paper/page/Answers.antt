@@ -7,7 +7,7 @@ use native.Mathlib.Omega.{arith}
 use borrow.Author.Rules.{rules}
 use lib.Ieee.{binary64}
 use Rattle.method.specs.Root.Paper.{Start, first, turns, page, halved}
-use Rattle.method.specs.Root.Page.{number_bound, page-all, page-last}
+use Rattle.method.proofs.Root.Page.{number_bound, page-all, page-last}
 use Rattle.float.proofs.Signs.{held}
 use Rattle.float.proofs.paper.page.Goals.{else-many-gt54, then-many-gt54}
 use Rattle.float.proofs.paper.page.Goals as goal

@@ -9,10 +9,10 @@ use lib.ListN.{length, get_or, take}
 use lib.Seq.{get_or-take}
 use lib.Ieee.{nan}
 use Rattle.method.specs.Floats.{signed_if}
-use Rattle.method.specs.Index.{row_in, few}
-use Rattle.method.specs.Writes.{length-writes}
+use Rattle.method.proofs.Index.{row_in, few}
+use Rattle.method.proofs.Writes.{length-writes}
 use Rattle.method.specs.Order.{diagonal, rows_moved}
-use Rattle.method.specs.Order.Columns.{rows_none, row_step}
+use Rattle.method.proofs.Order.Columns.{rows_none, row_step}
 use Rattle.order.specs.Laws.{row_inside}
 use Rattle.order.proofs.columns.columns.Goals as goal
 

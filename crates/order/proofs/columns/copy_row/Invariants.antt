@@ -6,8 +6,8 @@ use native.Mathlib.Nat.{le_antisymm}
 use mathlib.Core.Path.{◌≡◌, refl, ◌∙◌}
 use lib.ListN.{length, length-set, get_or}
 use lib.Ieee.{nan}
-use Rattle.method.specs.Repeated.{repeated-none}
-use Rattle.method.specs.Writes.{writes, writes_more}
+use Rattle.method.proofs.Repeated.{repeated-none}
+use Rattle.method.proofs.Writes.{writes, writes_more}
 use Rattle.order.proofs.columns.copy_row.Given as goal
 
 abbrev pub invariant-loop-k : goal.invariant-loop-k

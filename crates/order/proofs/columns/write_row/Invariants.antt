@@ -8,8 +8,8 @@ use lib.ListN.{length, length-set, get_or, take}
 use lib.Seq.{get_or-take}
 use lib.Ieee.{nan}
 use Rattle.method.specs.Floats.{signed_if}
-use Rattle.method.specs.Repeated.{repeated-none}
-use Rattle.method.specs.Writes.{writes, writes_more}
+use Rattle.method.proofs.Repeated.{repeated-none}
+use Rattle.method.proofs.Writes.{writes, writes_more}
 use Rattle.method.specs.Order.{diagonal}
 use Rattle.order.specs.Laws.{listed_in, listed-few}
 use Rattle.order.proofs.columns.write_row.Given as goal

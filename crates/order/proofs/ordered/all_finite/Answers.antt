@@ -6,7 +6,7 @@ use native.Mathlib.Nat.{le_antisymm}
 use mathlib.Core.Path.{◌≡◌, refl, ◌∙◌}
 use Rattle.method.specs.Order.{diagonal}
 use Rattle.method.specs.Ordered.{all_finite}
-use Rattle.method.specs.Ordered.Numbers.{finite_none, finite_next}
+use Rattle.method.proofs.Ordered.Numbers.{finite_none, finite_next}
 use Rattle.order.specs.Laws.{entry_in, entry_few}
 use Rattle.order.proofs.ordered.all_finite.Goals as goal
 

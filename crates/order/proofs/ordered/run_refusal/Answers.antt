@@ -2,7 +2,7 @@
 use borrow.Author.Rules.{rules}
 use mathlib.Core.Path.{sym, ap, ◌∙◌}
 use mathlib.Core.Bool.{not}
-use Rattle.method.specs.Checks.First.{first-hit, first-miss, first-none}
+use Rattle.method.proofs.Checks.First.{first-hit, first-miss, first-none}
 use Rattle.order.proofs.ordered.run_refusal.Goals as goal
 
 pub returns-then-not-is_settled : goal.returns-then-not-is_settled

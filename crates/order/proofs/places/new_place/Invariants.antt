@@ -6,7 +6,7 @@ use Prim.Native.Nat.{ℕ, ◌-◌, ◌≤◌}
 use native.Mathlib.Nat.{le_antisymm}
 use mathlib.Core.Path.{◌≡◌, sym, ap, ◌∙◌}
 use Rattle.method.specs.Order.{ahead, diagonal, how_many, new_place}
-use Rattle.method.specs.Order.Places.{count-zero}
+use Rattle.method.proofs.Order.Places.{count-zero}
 use Rattle.order.specs.Laws.{entry_in, entry_few, count-step, pick-le}
 use Rattle.order.proofs.places.new_place.Given as goal
 

@@ -6,11 +6,11 @@ use Prim.Native.Nat.{ℕ, ◌-◌, ◌≤◌}
 use native.Mathlib.Nat.{le_antisymm}
 use mathlib.Core.Path.{◌≡◌, refl, ap, ◌∙◌}
 use lib.ListN.{length, length-set, take}
-use Rattle.method.specs.Repeated.{repeated-none}
-use Rattle.method.specs.Writes.{writes, writes_more}
+use Rattle.method.proofs.Repeated.{repeated-none}
+use Rattle.method.proofs.Writes.{writes, writes_more}
 use Rattle.method.specs.Order.{diagonal, ahead, new_place}
-use Rattle.method.specs.Order.Places.{place-below, order-in}
-use Rattle.method.specs.Order.Sizes.{ahead-orders}
+use Rattle.method.proofs.Order.Places.{place-below, order-in}
+use Rattle.method.proofs.Order.Sizes.{ahead-orders}
 use Rattle.order.proofs.places.positions.Given as goal
 
 abbrev pub invariant-loop-i : goal.invariant-loop-i

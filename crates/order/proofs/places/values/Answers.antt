@@ -7,8 +7,8 @@ use mathlib.Core.Path.{◌≡◌, refl, sym, ap, ◌∙◌}
 use lib.ListN.{length, length-set, get_or, take}
 use lib.Seq.{get_or-take}
 use Rattle.method.specs.Floats.{magnitude}
-use Rattle.method.specs.Repeated.{repeated-none}
-use Rattle.method.specs.Writes.{writes, writes_more}
+use Rattle.method.proofs.Repeated.{repeated-none}
+use Rattle.method.proofs.Writes.{writes, writes_more}
 use Rattle.method.specs.Order.{diagonal, values_by}
 use Rattle.order.specs.Laws.{listed_in, listed-few}
 use Rattle.order.proofs.places.values.Goals as goal

@@ -2,8 +2,8 @@
 use borrow.Author.Rules.{rules}
 use mathlib.Core.Path.{refl}
 use native.Mathlib.Omega.{arith}
-use Rattle.method.specs.Index.{row_below, rows_left}
-use Rattle.method.specs.Floats.{plus_zero-64}
+use Rattle.method.proofs.Index.{row_below, rows_left}
+use Rattle.method.proofs.Floats.{plus_zero-64}
 use Rattle.svd.proofs.bidiagonalization.take_col.Goals as goal
 
 pub overflow_mul-head : goal.overflow_mul-head

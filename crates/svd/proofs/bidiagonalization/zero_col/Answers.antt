@@ -4,8 +4,8 @@ use Prim.Native.Nat.{◌+◌}
 use mathlib.Core.Path.{refl, ◌∙◌}
 use native.Mathlib.Omega.{arith}
 use native.Mathlib.Nat.{le_of_lt, le_trans, lt_of_lt_of_le, sub-le}
-use Rattle.method.specs.Floats.{plus_zero-64}
-use Rattle.method.specs.Bidiagonal.{column_still, column_moved, factor-still, factor-moved}
+use Rattle.method.proofs.Floats.{plus_zero-64}
+use Rattle.method.proofs.Bidiagonal.{column_still, column_moved, factor-still, factor-moved}
 use Rattle.svd.specs.Values.{roomy_kept, reaches, table-block, factor-block, ne_taken, ne_left}
 use Rattle.svd.proofs.bidiagonalization.zero_col.Goals as goal
 

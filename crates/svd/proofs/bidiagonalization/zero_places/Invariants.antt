@@ -8,8 +8,9 @@ use lib.Ieee.{binary64}
 use Rattle.svd.specs.Values.{sizes, roomy_kept, lending_kept}
 use Rattle.svd.specs.Turns.{column_zeroed_lem, row_zeroed_lem, place-upper, place-lower, place_inside}
 use Rattle.method.specs.Work.{work}
-use Rattle.method.specs.Lengths.{SameLengths, onward}
-use Rattle.method.specs.Repeated.{repeated-none}
+use Rattle.method.specs.Lengths.{SameLengths}
+use Rattle.method.proofs.Lengths.{onward}
+use Rattle.method.proofs.Repeated.{repeated-none}
 use Rattle.method.specs.Bidiagonal.{places_zeroed}
 use Rattle.svd.proofs.bidiagonalization.zero_places.Given as goal
 

@@ -4,9 +4,9 @@ use Prim.Native.Nat.{◌+◌}
 use mathlib.Core.Path.{refl, ◌∙◌}
 use native.Mathlib.Omega.{arith}
 use native.Mathlib.Nat.{le_of_lt, le_trans, sub-le}
-use Rattle.method.specs.Index.{row_below}
-use Rattle.method.specs.Floats.{plus_zero-64}
-use Rattle.method.specs.Bidiagonal.{row_still, row_moved, factor-still, factor-moved}
+use Rattle.method.proofs.Index.{row_below}
+use Rattle.method.proofs.Floats.{plus_zero-64}
+use Rattle.method.proofs.Bidiagonal.{row_still, row_moved, factor-still, factor-moved}
 use Rattle.svd.specs.Values.{roomy_kept, reaches, table-block, factor-block, ne_taken, ne_left}
 use Rattle.svd.proofs.bidiagonalization.zero_row.Goals as goal
 

@@ -9,8 +9,9 @@ use lib.Ieee.{binary64}
 use Rattle.svd.specs.Values.{sizes, lending_kept}
 use Rattle.svd.specs.Turns.{step_more, step_inside}
 use Rattle.method.specs.Work.{work}
-use Rattle.method.specs.Lengths.{SameLengths, onward}
-use Rattle.method.specs.Repeated.{repeated-none}
+use Rattle.method.specs.Lengths.{SameLengths}
+use Rattle.method.proofs.Lengths.{onward}
+use Rattle.method.proofs.Repeated.{repeated-none}
 use Rattle.method.specs.Chase.{steps}
 use Rattle.svd.proofs.bulge_chasing.chase.Goals as goal
 

@@ -3,7 +3,7 @@ use borrow.Author.Rules.{rules}
 use Prim.Native.Nat.{◌+◌}
 use native.Mathlib.Omega.{arith}
 use lib.Ieee.{binary64}
-use Rattle.method.specs.Chase.{first_rotation-is}
+use Rattle.method.proofs.Chase.{first_rotation-is}
 use Rattle.svd.proofs.bulge_chasing.first_rotation.Goals as goal
 
 pub returns : goal.returns

@@ -5,8 +5,8 @@ use native.Mathlib.Omega.{arith}
 use lib.Dec.{lit≤}
 use lib.Ieee.{binary64}
 use Rattle.svd.specs.Values.{sizes, lending_kept, rows_block}
-use Rattle.method.specs.Chase.{swept-is}
-use Rattle.method.specs.Moves.Laws.{sweep_rotations_lem}
+use Rattle.method.proofs.Chase.{swept-is}
+use Rattle.method.proofs.Moves.Laws.{sweep_rotations_lem}
 use Rattle.svd.proofs.bulge_chasing.givens_iteration.Goals as goal
 
 pub first_rotation-g-requires : goal.first_rotation-g-requires

@@ -3,8 +3,8 @@ use borrow.Author.Rules.{rules}
 use Prim.Native.Nat.{◌+◌}
 use native.Mathlib.Omega.{arith}
 use lib.Ieee.{binary64}
-use Rattle.method.specs.Chase.{negligible-is}
-use Rattle.method.specs.Positions.{coupling-inside}
+use Rattle.method.proofs.Chase.{negligible-is}
+use Rattle.method.proofs.Positions.{coupling-inside}
 use Rattle.svd.proofs.bulge_chasing.is_negligible.Goals as goal
 
 pub offset_bounds-b-e1 : goal.offset_bounds-b-e1

@@ -6,9 +6,9 @@ use native.Mathlib.Omega.{arith}
 use native.Mathlib.Nat.{le_antisymm}
 use lib.ListN.{length}
 use lib.Ieee.{binary64}
-use Rattle.method.specs.Index.{row_fits}
+use Rattle.method.proofs.Index.{row_fits}
 use Rattle.svd.specs.Values.{rotation}
-use Rattle.method.specs.Repeated.{repeated-none, repeated-more}
+use Rattle.method.proofs.Repeated.{repeated-none, repeated-more}
 use Rattle.method.specs.Rotation.{columns_turned}
 use Rattle.svd.proofs.givens.apply_gt_right.Given as goal
 

@@ -1,8 +1,8 @@
 -- `implicit_givens_rotation` meets its contract: by the three cases of the rule. Assumes nothing.
 use borrow.Author.Rules.{rules}
 use mathlib.Core.Path.{refl}
-use Rattle.method.specs.Rotation.{rotation-zero, rotation-sine, rotation-cosine}
-use Rattle.method.specs.Floats.{plus_zero-64, one-64}
+use Rattle.method.proofs.Rotation.{rotation-zero, rotation-sine, rotation-cosine}
+use Rattle.method.proofs.Floats.{plus_zero-64, one-64}
 use Rattle.svd.proofs.givens.implicit_givens_rotation.Goals as goal
 
 pub returns-then-a : goal.returns-then-a

@@ -5,10 +5,10 @@ use mathlib.Core.Path.{◌≡◌, refl}
 use native.Mathlib.Omega.{arith}
 use native.Mathlib.Nat.{le_antisymm}
 use lib.ListN.{length, length-set}
-use Rattle.method.specs.Index.{row_below}
-use Rattle.method.specs.Repeated.{repeated-none, repeated-more}
+use Rattle.method.proofs.Index.{row_below}
+use Rattle.method.proofs.Repeated.{repeated-none, repeated-more}
 use Rattle.method.specs.Reflection.{line_cleared}
-use Rattle.method.specs.Floats.{plus_zero-64}
+use Rattle.method.proofs.Floats.{plus_zero-64}
 use Rattle.svd.proofs.householder.clear_line.Goals as goal
 
 pub loop-k-init : goal.loop-k-init

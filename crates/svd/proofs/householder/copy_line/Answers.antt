@@ -6,8 +6,8 @@ use native.Mathlib.Omega.{arith}
 use native.Mathlib.Nat.{le_antisymm}
 use lib.ListN.{length, length-set}
 use Rattle.method.specs.Settings.{most_size}
-use Rattle.method.specs.Index.{row_below}
-use Rattle.method.specs.Repeated.{repeated-none, repeated-more}
+use Rattle.method.proofs.Index.{row_below}
+use Rattle.method.proofs.Repeated.{repeated-none, repeated-more}
 use Rattle.method.specs.Reflection.{line_copied}
 use Rattle.svd.proofs.householder.copy_line.Goals as goal
 

@@ -1,7 +1,7 @@
 -- `lapply_householder` meets its contract: the three steps of `reflected_left`, over a blank vector. Assumes nothing.
 use borrow.Author.Rules.{rules}
 use Rattle.method.specs.Reflection.{reflected_left}
-use Rattle.method.specs.Floats.{plus_zero-64}
+use Rattle.method.proofs.Floats.{plus_zero-64}
 use Rattle.svd.proofs.householder.lapply_householder.Goals as goal
 
 pub sum_columns-requires : goal.sum_columns-requires

@@ -4,10 +4,11 @@ use Prim.Native.Nat.{◌-◌, ◌≤◌, zero-le}
 use mathlib.Core.Path.{◌≡◌, ◌∙◌}
 use native.Mathlib.Omega.{arith}
 use native.Mathlib.Nat.{le_antisymm}
-use Rattle.method.specs.Repeated.{repeated-none, repeated-more}
+use Rattle.method.proofs.Repeated.{repeated-none, repeated-more}
 use mathlib.Core.Logic.{⊎_elim}
-use Rattle.method.specs.Reflection.{largest_of, widened-taken, widened-left}
-use Rattle.method.specs.Floats.{plus_zero-64}
+use Rattle.method.specs.Reflection.{largest_of}
+use Rattle.method.proofs.Reflection.{widened-taken, widened-left}
+use Rattle.method.proofs.Floats.{plus_zero-64}
 use Rattle.svd.proofs.householder.largest.Goals.{else-x-max, then-x-max}
 use Rattle.svd.proofs.householder.largest.Goals as goal
 

@@ -6,8 +6,8 @@ use native.Mathlib.Omega.{arith}
 use lib.Dec.{lit≤}
 use lib.ListN.{length-set}
 use Rattle.method.specs.Settings.{most_size}
-use Rattle.method.specs.Reflection.{blank-length, reflection-small, reflection-large}
-use Rattle.method.specs.Floats.{plus_zero-64, one-64}
+use Rattle.method.proofs.Reflection.{blank-length, reflection-small, reflection-large}
+use Rattle.method.proofs.Floats.{plus_zero-64, one-64}
 use Rattle.svd.proofs.householder.params.Goals as goal
 
 -- the vector comes blank, and keeps its length

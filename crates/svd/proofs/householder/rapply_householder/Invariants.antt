@@ -7,7 +7,7 @@ use native.Mathlib.Nat.{le_antisymm}
 use lib.ListN.{length}
 use lib.Ieee.{binary64}
 use Rattle.svd.specs.Values.{row_in_block}
-use Rattle.method.specs.Repeated.{repeated-none, repeated-more}
+use Rattle.method.proofs.Repeated.{repeated-none, repeated-more}
 use Rattle.method.specs.Reflection.{reflected_right}
 use Rattle.svd.proofs.householder.rapply_householder.Given as goal
 

@@ -5,7 +5,7 @@ use mathlib.Core.Path.{◌≡◌}
 use native.Mathlib.Omega.{arith}
 use native.Mathlib.Nat.{le_antisymm}
 use lib.Ieee.{binary64}
-use Rattle.method.specs.Repeated.{repeated-none, repeated-more}
+use Rattle.method.proofs.Repeated.{repeated-none, repeated-more}
 use Rattle.method.specs.Reflection.{row_times}
 use Rattle.svd.proofs.householder.row_times.Goals as goal
 

@@ -7,7 +7,7 @@ use native.Mathlib.Nat.{le_antisymm}
 use lib.ListN.{length, length-set}
 use lib.Ieee.{binary64}
 use Rattle.method.specs.Settings.{most_size}
-use Rattle.method.specs.Repeated.{repeated-none, repeated-more}
+use Rattle.method.proofs.Repeated.{repeated-none, repeated-more}
 use Rattle.method.specs.Reflection.{scaled}
 use Rattle.svd.proofs.householder.scale_into.Goals as goal
 

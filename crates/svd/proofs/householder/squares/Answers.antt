@@ -5,9 +5,9 @@ use mathlib.Core.Path.{◌≡◌, ◌∙◌}
 use native.Mathlib.Omega.{arith}
 use native.Mathlib.Nat.{le_antisymm}
 use lib.Ieee.{binary64}
-use Rattle.method.specs.Repeated.{repeated-none, repeated-more}
+use Rattle.method.proofs.Repeated.{repeated-none, repeated-more}
 use Rattle.method.specs.Reflection.{squares_of}
-use Rattle.method.specs.Floats.{plus_zero-64}
+use Rattle.method.proofs.Floats.{plus_zero-64}
 use Rattle.svd.proofs.householder.squares.Goals as goal
 
 pub loop-k-init : goal.loop-k-init

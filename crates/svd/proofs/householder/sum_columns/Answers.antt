@@ -8,8 +8,9 @@ use lib.ListN.{length}
 use lib.Ieee.{binary64}
 use Rattle.svd.specs.Values.{row_in_block}
 use Rattle.method.specs.Settings.{most_size}
-use Rattle.method.specs.Repeated.{repeated-none, repeated-more}
-use Rattle.method.specs.Reflection.{blank-length, rows_added, column_sums}
+use Rattle.method.proofs.Repeated.{repeated-none, repeated-more}
+use Rattle.method.specs.Reflection.{rows_added, column_sums}
+use Rattle.method.proofs.Reflection.{blank-length}
 use Rattle.svd.proofs.householder.sum_columns.Goals as goal
 
 pub loop-k-init : goal.loop-k-init

@@ -3,7 +3,7 @@ use borrow.Author.Rules.{rules}
 use mathlib.Core.Path.{◌∙◌}
 use native.Mathlib.Omega.{arith}
 use lib.Ieee.{binary64}
-use Rattle.method.specs.Lengths.{bidiagonal-kept}
+use Rattle.method.proofs.Lengths.{bidiagonal-kept}
 use Rattle.checks.specs.Values.{settings_of}
 use Rattle.svd.specs.Values.{sizes, lending_kept}
 use Rattle.svd.specs.Calls.{values-inside}

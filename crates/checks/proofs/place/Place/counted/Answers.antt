@@ -1,7 +1,7 @@
 -- `Place::counted` meets its contract: by whether a bad reading was counted before. Assumes nothing.
 use mathlib.Core.Path.{sym}
 use native.Mathlib.Omega.{arith}
-use Rattle.method.specs.Checks.Readings.{counted-first, counted-later}
+use Rattle.method.proofs.Checks.Readings.{counted-first, counted-later}
 use Rattle.checks.proofs.place.Place.counted.Goals as goal
 
 pub returns-then-self-eq0 : goal.returns-then-self-eq0

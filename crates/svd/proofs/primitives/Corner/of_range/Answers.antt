@@ -4,7 +4,7 @@ use Prim.Native.Nat.{ℕ, ◌+◌, ◌-◌, ◌*◌, ◌≤◌}
 use mathlib.Core.Path.{◌≡◌, refl}
 use native.Mathlib.Omega.{arith}
 use Rattle.method.specs.Settings.{most_size, most_stride}
-use Rattle.method.specs.Index.{few}
+use Rattle.method.proofs.Index.{few}
 use Rattle.method.specs.Positions.{corner_of}
 use Rattle.svd.proofs.primitives.Corner.of_range.Goals as goal
 

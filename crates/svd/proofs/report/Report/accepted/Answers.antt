@@ -6,7 +6,7 @@ use mathlib.Core.List.{List, []}
 use lib.Ieee.{Float}
 use Rattle.method.specs.Work.{Work, work}
 use Rattle.method.specs.Walk.{State, stands}
-use Rattle.method.specs.Report.Words.{reported-settled, reported-quiet, reported-stopped}
+use Rattle.method.proofs.Report.Words.{reported-settled, reported-quiet, reported-stopped}
 use Rattle.svd.specs.Values.{walk_of}
 use Rattle.svd.specs.declared.primitives.Walk.{Walk}
 use Rattle.svd.proofs.report.Report.accepted.Goals as goal
