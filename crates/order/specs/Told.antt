@@ -4,7 +4,6 @@ use Rattle.std.specs.Prelude.{◌≡◌, ◌⊎◌, true, List, ℕ, ◌≤◌, 
 use Rattle.std.proofs.Common.{sym, ap, ◌∙◌, inl, inr}
 use Rattle.std.specs.Float.{binary64}
 use Rattle.method.specs.Work.{Work}
-use Rattle.method.specs.Walk as Walk
 use Rattle.method.proofs.Checks.Table.{TruePlace}
 use Rattle.method.specs.Report as Report
 use Rattle.method.specs.Report.{refused}

@@ -1,5 +1,4 @@
 -- `zero_at` meets its contract: behind the end of the list the definition reads a NaN, which is no zero. Assumes nothing.
-use borrow.Author.Rules.{rules}
 use mathlib.Core.Path.{sym}
 use Rattle.corner.specs.Steps.{behind}
 use Rattle.corner.proofs.zero_at.Goals as goal

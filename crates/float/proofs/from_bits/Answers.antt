@@ -1,7 +1,6 @@
 -- `float::from_bits` meets its contract: a pattern above that of infinity is the NaN. Assumes nothing.
 use mathlib.Core.Path.{◌∙◌}
 use native.Mathlib.Omega.{arith}
-use borrow.Author.Rules.{rules}
 use Rattle.method.proofs.Nans.{bits-no_nan}
 use Rattle.float.proofs.Patterns.{zero_by_zero, nan_read}
 use Rattle.float.proofs.from_bits.Goals as goal

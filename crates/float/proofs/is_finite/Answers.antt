@@ -11,7 +11,6 @@ use Rattle.float.proofs.is_finite.Goals as goal
 abbrev both : Float → Bool → Bool
 both x first = first && lt x (div binary64 one plus_zero)
 
-
 pub returns-then-top-x : goal.returns-then-top-x
 returns-then-top-x c =
     let x = c.args.x in

@@ -1,5 +1,4 @@
 -- `float::smaller` meets its contract: the second where the first is NaN or above it, else the first. Assumes nothing.
-use mathlib.Core.Logic.{⊎_elim}
 use mathlib.Core.Path.{◌≡◌, refl}
 use lib.Ieee.{is_nan, lt}
 use Rattle.method.specs.Floats.{smaller}

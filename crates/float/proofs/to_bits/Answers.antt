@@ -1,5 +1,4 @@
 -- `float::to_bits` meets its contract: only a NaN differs from itself. Assumes nothing.
-use borrow.Author.Rules.{rules}
 use Rattle.method.proofs.Nans.{no_nan}
 use Rattle.float.proofs.Patterns.{nan_pattern}
 use Rattle.float.proofs.to_bits.Goals as goal

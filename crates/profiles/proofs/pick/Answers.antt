@@ -1,6 +1,5 @@
 -- `pick` meets its contract: there is no such profile, or the table of the code has the profile's settings. Assumes
 -- nothing.
-use borrow.Author.Rules.{rules}
 use mathlib.Core.Path.{sym, ◌∙◌}
 use native.Mathlib.Omega.{arith}
 use lib.Ieee.{of_bits, round, binary64}

@@ -1,5 +1,4 @@
 -- `bound_fit` meets its contract: by whether x is finite. Assumes nothing.
-use borrow.Author.Rules.{rules}
 use mathlib.Core.Path.{refl}
 use Rattle.method.proofs.Floats.{plus_zero-64}
 use Rattle.checks.proofs.refusal.bound_fit.Goals as goal

@@ -1,5 +1,4 @@
 -- `bounds_unfit` meets its contract: by one bound after another. Assumes nothing.
-use borrow.Author.Rules.{rules}
 use mathlib.Core.Path.{refl}
 use Rattle.checks.proofs.refusal.bounds_unfit.Goals as goal
 

@@ -1,6 +1,5 @@
 -- `first_refusal` meets its contract: of three lists of checks, one after the other, the first that refuses is in the first
 -- list that has one. Assumes nothing.
-use borrow.Author.Rules.{rules}
 use mathlib.Core.Path.{refl}
 use Rattle.method.specs.Work.{work}
 use Rattle.method.proofs.Checks.First.{first-here, first-beyond}

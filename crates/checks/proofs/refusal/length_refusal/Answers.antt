@@ -1,6 +1,5 @@
 -- `length_refusal` meets its contract: one check after the other, as the definition has them; the products are small.
 -- Assumes nothing.
-use borrow.Author.Rules.{rules}
 use mathlib.Core.Path.{sym, ◌∙◌}
 use native.Mathlib.Omega.{arith}
 use Rattle.method.proofs.Index.{few}

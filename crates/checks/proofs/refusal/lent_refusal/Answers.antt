@@ -1,6 +1,5 @@
 -- `lent_refusal` meets its contract: of two lists of checks, one after the other, the first that refuses is in the first
 -- list that has one. Assumes nothing.
-use borrow.Author.Rules.{rules}
 use mathlib.Core.Path.{refl}
 use Rattle.method.proofs.Checks.First.{first-here, first-beyond}
 use Rattle.checks.proofs.refusal.lent_refusal.Goals as goal

@@ -1,5 +1,4 @@
 -- `list_refusal` meets its contract: its one check. Assumes nothing.
-use borrow.Author.Rules.{rules}
 use mathlib.Core.Path.{sym, ◌∙◌}
 use Rattle.method.proofs.Checks.First.{first-hit, first-miss, first-none}
 use Rattle.checks.proofs.refusal.list_refusal.Goals as goal

@@ -1,5 +1,4 @@
 -- `reading_refusal` meets its contract: it refuses where a bad reading was counted. Assumes nothing.
-use borrow.Author.Rules.{rules}
 use mathlib.Core.Path.{sym, ap, ◌∙◌}
 use borrow.Author.Tests.{lt-ltb, le-ltb}
 use Rattle.method.specs.Checks.{Place, refusal}

@@ -1,5 +1,4 @@
 -- `size_refusal` meets its contract: one check after the other, as the definition has them. Assumes nothing.
-use borrow.Author.Rules.{rules}
 use mathlib.Core.Path.{sym, ◌∙◌}
 use Rattle.method.proofs.Checks.First.{first-hit, first-miss, first-none}
 use Rattle.checks.proofs.refusal.size_refusal.Goals as goal

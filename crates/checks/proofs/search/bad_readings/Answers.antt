@@ -1,14 +1,11 @@
 -- `bad_readings` meets its contract: before entry (i, j) it has found what the definition has found. Assumes nothing.
-use borrow.Author.Rules.{rules}
-use Prim.Native.Nat.{ℕ, ◌+◌, ◌-◌, ◌*◌, ◌≤◌, zero-le}
-use mathlib.Core.Path.{◌≡◌, ap, ◌∙◌}
+use Prim.Native.Nat.{ℕ, ◌+◌, ◌*◌, ◌≤◌, zero-le}
+use mathlib.Core.Path.{ap, ◌∙◌}
 use native.Mathlib.Omega.{arith}
 use native.Mathlib.Nat.{le_antisymm, mul-le-mul}
 use Rattle.method.specs.Settings.{most_size}
-use Rattle.method.specs.Work.{at}
-use Rattle.method.specs.Repeated.{repeated}
 use Rattle.method.proofs.Repeated.{repeated-none, repeated-more}
-use Rattle.method.specs.Checks.{Place, nowhere, looked, bad_readings}
+use Rattle.method.specs.Checks.{Place, nowhere, bad_readings}
 use Rattle.method.proofs.Checks.Readings.{row_most, bad_most}
 use Rattle.method.proofs.Index.{row_in}
 use Rattle.checks.specs.Values.{place_in}
@@ -23,48 +20,43 @@ loop-j-init c = (omega arith, repeated-none 0 _ _)
 
 pub overflow_mul-i : goal.overflow_mul-i
 overflow_mul-i c =
-    let row : let args = c.args in (c.loop-i.i * args.cols + args.cols ≤ args.rows * args.cols) × (args.rows * args.cols ≤ most_size * most_size) =
-    (
-          row_in c.loop-i.i c.args.rows c.args.cols (omega arith),
-          mul-le-mul c.requires.1 c.requires.2,
-        ) in
+    let row : let args = c.args in (c.loop-i.i * args.cols + args.cols ≤ args.rows * args.cols) × (args.rows * args.cols ≤ most_size * most_size) = (
+      row_in c.loop-i.i c.args.rows c.args.cols (omega arith),
+      mul-le-mul c.requires.1 c.requires.2,
+    ) in
     record { fits = omega (arith, row.0, row.1) }
 
 pub overflow_add-i : goal.overflow_add-i
 overflow_add-i c =
-    let row : let args = c.args in (c.loop-i.i * args.cols + args.cols ≤ args.rows * args.cols) × (args.rows * args.cols ≤ most_size * most_size) =
-    (
-          row_in c.loop-i.i c.args.rows c.args.cols (omega arith),
-          mul-le-mul c.requires.1 c.requires.2,
-        ) in
+    let row : let args = c.args in (c.loop-i.i * args.cols + args.cols ≤ args.rows * args.cols) × (args.rows * args.cols ≤ most_size * most_size) = (
+      row_in c.loop-i.i c.args.rows c.args.cols (omega arith),
+      mul-le-mul c.requires.1 c.requires.2,
+    ) in
     omega (arith, row.0, row.1)
 
 pub offset_bounds-b-i : goal.offset_bounds-b-i
 offset_bounds-b-i c =
-    let row : let args = c.args in (c.loop-i.i * args.cols + args.cols ≤ args.rows * args.cols) × (args.rows * args.cols ≤ most_size * most_size) =
-    (
-          row_in c.loop-i.i c.args.rows c.args.cols (omega arith),
-          mul-le-mul c.requires.1 c.requires.2,
-        ) in
+    let row : let args = c.args in (c.loop-i.i * args.cols + args.cols ≤ args.rows * args.cols) × (args.rows * args.cols ≤ most_size * most_size) = (
+      row_in c.loop-i.i c.args.rows c.args.cols (omega arith),
+      mul-le-mul c.requires.1 c.requires.2,
+    ) in
     omega (arith, row.0)
 
 pub bounds-b-i : goal.bounds-b-i
 bounds-b-i c =
-    let row : let args = c.args in (c.loop-i.i * args.cols + args.cols ≤ args.rows * args.cols) × (args.rows * args.cols ≤ most_size * most_size) =
-    (
-          row_in c.loop-i.i c.args.rows c.args.cols (omega arith),
-          mul-le-mul c.requires.1 c.requires.2,
-        ) in
+    let row : let args = c.args in (c.loop-i.i * args.cols + args.cols ≤ args.rows * args.cols) × (args.rows * args.cols ≤ most_size * most_size) = (
+      row_in c.loop-i.i c.args.rows c.args.cols (omega arith),
+      mul-le-mul c.requires.1 c.requires.2,
+    ) in
     omega (arith, row.0)
 
 -- fewer were counted than there are readings
 pub looked-found-requires : goal.looked-found-requires
 looked-found-requires c =
-    let row : let args = c.args in (c.loop-i.i * args.cols + args.cols ≤ args.rows * args.cols) × (args.rows * args.cols ≤ most_size * most_size) =
-    (
-          row_in c.loop-i.i c.args.rows c.args.cols (omega arith),
-          mul-le-mul c.requires.1 c.requires.2,
-        ) in
+    let row : let args = c.args in (c.loop-i.i * args.cols + args.cols ≤ args.rows * args.cols) × (args.rows * args.cols ≤ most_size * most_size) = (
+      row_in c.loop-i.i c.args.rows c.args.cols (omega arith),
+      mul-le-mul c.requires.1 c.requires.2,
+    ) in
     let args = c.args in
     let bad : Place → ℕ = λ p. p.bad in
     let rows = ap bad c.loop-i.invariant.1 in

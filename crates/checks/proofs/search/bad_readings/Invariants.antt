@@ -1,16 +1,9 @@
 -- `bad_readings` meets its contract: before entry (i, j) it has found what the definition has found. Assumes nothing.
-use borrow.Author.Rules.{rules}
-use Prim.Native.Nat.{ℕ, ◌+◌, ◌-◌, ◌*◌, ◌≤◌, zero-le}
-use mathlib.Core.Path.{◌≡◌, ap, ◌∙◌}
-use native.Mathlib.Omega.{arith}
-use native.Mathlib.Nat.{le_antisymm, mul-le-mul}
-use Rattle.method.specs.Settings.{most_size}
+use Prim.Native.Nat.{◌-◌, ◌≤◌}
+use mathlib.Core.Path.{◌≡◌}
 use Rattle.method.specs.Work.{at}
 use Rattle.method.specs.Repeated.{repeated}
-use Rattle.method.proofs.Repeated.{repeated-none, repeated-more}
-use Rattle.method.specs.Checks.{Place, nowhere, looked, bad_readings}
-use Rattle.method.proofs.Checks.Readings.{row_most, bad_most}
-use Rattle.method.proofs.Index.{row_in}
+use Rattle.method.specs.Checks.{looked, bad_readings}
 use Rattle.checks.specs.Values.{place_in}
 use Rattle.checks.proofs.search.bad_readings.Given as goal
 

@@ -1,5 +1,4 @@
 -- `identity_flat` meets its contract: one check after another, then the zeros and the ones. Assumes nothing.
-use borrow.Author.Rules.{rules}
 use native.Mathlib.Omega.{arith}
 use Rattle.method.proofs.Index.{few}
 use Rattle.method.specs.Fill.Numbers.{FillFit}

@@ -1,14 +1,12 @@
 -- `ones` meets its contract: after i turns the first i of the diagonal are 1. Assumes nothing.
-use borrow.Author.Rules.{rules}
-use Prim.Native.Nat.{◌+◌, ◌-◌, ◌*◌, ◌≤◌}
+use Prim.Native.Nat.{◌*◌}
 use mathlib.Core.Path.{◌≡◌, refl, ap, ◌∙◌}
 use native.Mathlib.Omega.{arith}
 use native.Mathlib.Nat.{le_antisymm}
-use lib.ListN.{length, length-set, length-replicate, set}
-use Rattle.method.specs.Repeated.{repeated}
+use lib.ListN.{length, length-set, length-replicate}
 use Rattle.method.proofs.Repeated.{repeated-none, repeated-next}
 use Rattle.method.specs.Fill.{identity}
-use Rattle.method.specs.Floats.{one, plus_zero}
+use Rattle.method.specs.Floats.{plus_zero}
 use Rattle.method.proofs.Floats.{one-64}
 use Rattle.method.proofs.Index.{row_in, few}
 use Rattle.factors.specs.View.{Room}
@@ -21,48 +19,48 @@ pub overflow_mul-at : goal.overflow_mul-at
 overflow_mul-at c =
     let row : let n = c.args.n in Room (c.loop-i.i * n) n (length c.loop-i.a) =
     let n = c.args.n in
-        let whole : length c.loop-i.a ≡ n * n =
-        c.loop-i.invariant.1 ∙ ap length c.requires.1 ∙ length-replicate (n * n) plus_zero in
-        record {
-          inside = rw whole (row_in c.loop-i.i n n (omega arith));
-          few = rw whole (few n n (omega arith) (omega arith));
-        } in
+    let whole : length c.loop-i.a ≡ n * n =
+    c.loop-i.invariant.1 ∙ ap length c.requires.1 ∙ length-replicate (n * n) plus_zero in
+    record {
+      inside = rw whole (row_in c.loop-i.i n n (omega arith));
+      few = rw whole (few n n (omega arith) (omega arith));
+    } in
     let room = row in record { fits = omega arith }
 
 pub overflow_add-at : goal.overflow_add-at
 overflow_add-at c =
     let row : let n = c.args.n in Room (c.loop-i.i * n) n (length c.loop-i.a) =
     let n = c.args.n in
-        let whole : length c.loop-i.a ≡ n * n =
-        c.loop-i.invariant.1 ∙ ap length c.requires.1 ∙ length-replicate (n * n) plus_zero in
-        record {
-          inside = rw whole (row_in c.loop-i.i n n (omega arith));
-          few = rw whole (few n n (omega arith) (omega arith));
-        } in
+    let whole : length c.loop-i.a ≡ n * n =
+    c.loop-i.invariant.1 ∙ ap length c.requires.1 ∙ length-replicate (n * n) plus_zero in
+    record {
+      inside = rw whole (row_in c.loop-i.i n n (omega arith));
+      few = rw whole (few n n (omega arith) (omega arith));
+    } in
     let room = row in omega arith
 
 pub offset_bounds-a-at : goal.offset_bounds-a-at
 offset_bounds-a-at c =
     let row : let n = c.args.n in Room (c.loop-i.i * n) n (length c.loop-i.a) =
     let n = c.args.n in
-        let whole : length c.loop-i.a ≡ n * n =
-        c.loop-i.invariant.1 ∙ ap length c.requires.1 ∙ length-replicate (n * n) plus_zero in
-        record {
-          inside = rw whole (row_in c.loop-i.i n n (omega arith));
-          few = rw whole (few n n (omega arith) (omega arith));
-        } in
+    let whole : length c.loop-i.a ≡ n * n =
+    c.loop-i.invariant.1 ∙ ap length c.requires.1 ∙ length-replicate (n * n) plus_zero in
+    record {
+      inside = rw whole (row_in c.loop-i.i n n (omega arith));
+      few = rw whole (few n n (omega arith) (omega arith));
+    } in
     let room = row in omega arith
 
 pub bounds-a-at : goal.bounds-a-at
 bounds-a-at c =
     let row : let n = c.args.n in Room (c.loop-i.i * n) n (length c.loop-i.a) =
     let n = c.args.n in
-        let whole : length c.loop-i.a ≡ n * n =
-        c.loop-i.invariant.1 ∙ ap length c.requires.1 ∙ length-replicate (n * n) plus_zero in
-        record {
-          inside = rw whole (row_in c.loop-i.i n n (omega arith));
-          few = rw whole (few n n (omega arith) (omega arith));
-        } in
+    let whole : length c.loop-i.a ≡ n * n =
+    c.loop-i.invariant.1 ∙ ap length c.requires.1 ∙ length-replicate (n * n) plus_zero in
+    record {
+      inside = rw whole (row_in c.loop-i.i n n (omega arith));
+      few = rw whole (few n n (omega arith) (omega arith));
+    } in
     let room = row in omega arith
 
 pub loop-i-preserved : goal.loop-i-preserved

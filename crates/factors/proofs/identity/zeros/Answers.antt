@@ -1,12 +1,8 @@
 -- `zeros` meets its contract: after k turns the first k entries are 0 and the rest as they were. Assumes nothing.
-use borrow.Author.Rules.{rules}
-use Prim.Native.Nat.{◌-◌, ◌≤◌}
-use mathlib.Core.Path.{◌≡◌, refl}
-use mathlib.Core.List.{◌++◌}
+use mathlib.Core.Path.{refl}
 use native.Mathlib.Omega.{arith}
 use native.Mathlib.Nat.{le_antisymm}
-use lib.ListN.{length, length-set, drop, replicate}
-use Rattle.method.specs.Floats.{plus_zero}
+use lib.ListN.{length-set}
 use Rattle.method.proofs.Floats.{plus_zero-64}
 use Rattle.factors.specs.Fill.{zeros-more, zeros-all}
 use Rattle.factors.proofs.identity.zeros.Goals as goal

@@ -73,15 +73,15 @@ returns-then-side-eq0 c =
     ViewFit c.args.rows c.args.cols c.args.u.now c.args.v.now c.args.side c.args.row in
     let sizes : c.args.side ≤ 1 → c.args.row < pick (eqb c.args.side 0) c.args.rows c.args.cols → Fit =
     λ known below. record {
-          rows_some = omega arith;
-          cols_some = omega arith;
-          rows_few = omega arith;
-          cols_few = omega arith;
-          u_length = c.if-u-rows.false;
-          v_length = c.if-v-cols.false;
-          side_known = known;
-          row_below_size = below;
-        } in
+      rows_some = omega arith;
+      cols_some = omega arith;
+      rows_few = omega arith;
+      cols_few = omega arith;
+      u_length = c.if-u-rows.false;
+      v_length = c.if-v-cols.false;
+      side_known = known;
+      row_below_size = below;
+    } in
     fit_u sizes c.if-side-eq0.true
 
 pub returns-then-side-eq1 : goal.returns-then-side-eq1
@@ -90,15 +90,15 @@ returns-then-side-eq1 c =
     ViewFit c.args.rows c.args.cols c.args.u.now c.args.v.now c.args.side c.args.row in
     let sizes : c.args.side ≤ 1 → c.args.row < pick (eqb c.args.side 0) c.args.rows c.args.cols → Fit =
     λ known below. record {
-          rows_some = omega arith;
-          cols_some = omega arith;
-          rows_few = omega arith;
-          cols_few = omega arith;
-          u_length = c.if-u-rows.false;
-          v_length = c.if-v-cols.false;
-          side_known = known;
-          row_below_size = below;
-        } in
+      rows_some = omega arith;
+      cols_some = omega arith;
+      rows_few = omega arith;
+      cols_few = omega arith;
+      u_length = c.if-u-rows.false;
+      v_length = c.if-v-cols.false;
+      side_known = known;
+      row_below_size = below;
+    } in
     fit_v sizes c.if-side-eq1.true
 
 pub returns : goal.returns

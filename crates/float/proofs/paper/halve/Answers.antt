@@ -2,7 +2,6 @@
 -- nothing.
 use mathlib.Core.Path.{refl}
 use native.Mathlib.Omega.{arith}
-use borrow.Author.Rules.{rules}
 use Rattle.float.proofs.Joined.{twice-odd, once_even}
 use Rattle.float.proofs.paper.halve.Goals as goal
 

@@ -1,11 +1,10 @@
 -- `float::normalised` meets its contract: each turn doubles the digits and takes one off the power, as `Level` says.
 -- Assumes nothing.
 use Prim.Native.Nat.{◌+◌, ◌/◌, ◌%◌, ◌^◌}
-use mathlib.Core.Logic.{⊎_elim}
 use native.Mathlib.Omega.{arith}
 use lib.Ieee.{binary64, of_bits}
 use Rattle.method.specs.Root.{count}
-use Rattle.float.proofs.Level.{Level, start-low, start-high, turn, power_pos, level_at}
+use Rattle.float.proofs.Level.{start-low, start-high, turn, power_pos, level_at}
 use Rattle.float.proofs.paper.normalised.Goals.{else-field-gt0, then-field-gt0}
 use Rattle.float.proofs.paper.normalised.Goals as goal
 

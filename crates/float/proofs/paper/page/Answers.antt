@@ -1,12 +1,10 @@
 -- `float::paper::page` meets its contract: the turns that are asked for, and 54 at the most. Assumes nothing.
 use mathlib.Core.Path.{sym, ap, ◌∙◌, subst}
-use mathlib.Core.Logic.{⊎_elim}
 use Prim.Native.Nat.{ℕ, ◌≤◌, ◌<◌, ◌^◌}
 use native.Mathlib.Nat.{le_of_lt}
 use native.Mathlib.Omega.{arith}
-use borrow.Author.Rules.{rules}
 use lib.Ieee.{binary64}
-use Rattle.method.specs.Root.Paper.{Start, first, turns, page, halved}
+use Rattle.method.specs.Root.Paper.{Start, first, turns, halved}
 use Rattle.method.proofs.Root.Page.{number_bound, page-all, page-last}
 use Rattle.float.proofs.Signs.{held}
 use Rattle.float.proofs.paper.page.Goals.{else-many-gt54, then-many-gt54}

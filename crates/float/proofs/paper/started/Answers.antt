@@ -1,6 +1,5 @@
 -- `float::paper::started` meets its contract: what is normalised and halved is the definition's. Assumes nothing.
 use native.Mathlib.Omega.{arith}
-use borrow.Author.Rules.{rules}
 use Rattle.float.proofs.Joined.{count-some, halved_is}
 use Rattle.float.proofs.paper.started.Goals as goal
 

@@ -1,11 +1,9 @@
 -- `float::paper::turns` meets its contract: each turn of the loop is one of the page, and has room. Assumes nothing.
-use mathlib.Core.Path.{◌≡◌, sym, ap, ◌∙◌, subst}
-use Prim.Native.Nat.{ℕ, ◌+◌, ◌-◌, ◌≤◌, ◌<◌, ◌^◌}
+use mathlib.Core.Path.{sym, ap, ◌∙◌, subst}
+use Prim.Native.Nat.{ℕ, ◌+◌, ◌<◌, ◌^◌}
 use native.Mathlib.Nat.{le_antisymm}
 use native.Mathlib.Omega.{arith}
-use borrow.Author.Rules.{rules}
 use Rattle.method.specs.Root.Paper.{Line, first, turn, turns}
-use Rattle.float.specs.Values.{line_in}
 use Rattle.float.proofs.Turns.{turns_more, turns-none, turns-room}
 use Rattle.float.proofs.paper.turns.Goals as goal
 

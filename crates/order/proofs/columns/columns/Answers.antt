@@ -2,16 +2,16 @@
 -- nothing.
 use borrow.Author.Rules.{rules}
 use native.Mathlib.Omega.{arith}
-use Prim.Native.Nat.{◌+◌, ◌-◌, ◌*◌, ◌≤◌}
+use Prim.Native.Nat.{◌+◌, ◌*◌}
 use native.Mathlib.Nat.{le_antisymm}
-use mathlib.Core.Path.{◌≡◌, refl, sym, ap, ◌∙◌}
+use mathlib.Core.Path.{refl, sym, ap, ◌∙◌}
 use lib.ListN.{length, get_or, take}
 use lib.Seq.{get_or-take}
 use lib.Ieee.{nan}
 use Rattle.method.specs.Floats.{signed_if}
 use Rattle.method.proofs.Index.{row_in, few}
 use Rattle.method.proofs.Writes.{length-writes}
-use Rattle.method.specs.Order.{diagonal, rows_moved}
+use Rattle.method.specs.Order.{diagonal}
 use Rattle.method.proofs.Order.Columns.{rows_none, row_step}
 use Rattle.order.specs.Laws.{row_inside}
 use Rattle.order.proofs.columns.columns.Goals as goal
@@ -35,32 +35,30 @@ pub slice_bounds-copy_row-end : goal.slice_bounds-copy_row-end
 slice_bounds-copy_row-end c = search rules
 
 pub copy_row-requires : goal.copy_row-requires
-copy_row-requires c =
-    (
-      row_inside c.loop-i.invariant.1 c.requires.4 c.requires.3 (omega arith),
-      omega (arith, c.loop-i.invariant.2, c.requires.3, c.requires.2),
-    )
+copy_row-requires c = (
+  row_inside c.loop-i.invariant.1 c.requires.4 c.requires.3 (omega arith),
+  omega (arith, c.loop-i.invariant.2, c.requires.3, c.requires.2),
+)
 
 pub slice_bounds-write_row-end : goal.slice_bounds-write_row-end
 slice_bounds-write_row-end c = search rules
 
 pub write_row-requires : goal.write_row-requires
-write_row-requires c =
-    (
-      c.requires.0,
-      c.requires.1,
-      row_inside c.loop-i.invariant.1 c.requires.4 c.requires.3 (omega arith),
-      omega (
-        arith,
-        ap length c.copy_row.ensures,
-        length-writes (λ k. k)
-            (λ k. get_or c.loop-i.a (c.loop-i.i * c.args.n + k) nan) c.args.c
-            c.loop-i.w,
-        c.loop-i.invariant.2,
-        c.requires.3,
-        c.requires.2,
-      ),
-    )
+write_row-requires c = (
+  c.requires.0,
+  c.requires.1,
+  row_inside c.loop-i.invariant.1 c.requires.4 c.requires.3 (omega arith),
+  omega (
+    arith,
+    ap length c.copy_row.ensures,
+    length-writes (λ k. k)
+        (λ k. get_or c.loop-i.a (c.loop-i.i * c.args.n + k) nan) c.args.c
+        c.loop-i.w,
+    c.loop-i.invariant.2,
+    c.requires.3,
+    c.requires.2,
+  ),
+)
 
 pub loop-i-preserved : goal.loop-i-preserved
 loop-i-preserved c =

@@ -1,19 +1,10 @@
 -- `columns` meets its contract: after i turns the first i rows are rewritten, and the others are as they were. Assumes
 -- nothing.
-use borrow.Author.Rules.{rules}
-use native.Mathlib.Omega.{arith}
-use Prim.Native.Nat.{◌+◌, ◌-◌, ◌*◌, ◌≤◌}
-use native.Mathlib.Nat.{le_antisymm}
-use mathlib.Core.Path.{◌≡◌, refl, sym, ap, ◌∙◌}
+use Prim.Native.Nat.{◌-◌, ◌≤◌}
+use mathlib.Core.Path.{◌≡◌}
 use lib.ListN.{length, get_or, take}
-use lib.Seq.{get_or-take}
-use lib.Ieee.{nan}
 use Rattle.method.specs.Floats.{signed_if}
-use Rattle.method.proofs.Index.{row_in, few}
-use Rattle.method.proofs.Writes.{length-writes}
 use Rattle.method.specs.Order.{diagonal, rows_moved}
-use Rattle.method.proofs.Order.Columns.{rows_none, row_step}
-use Rattle.order.specs.Laws.{row_inside}
 use Rattle.order.proofs.columns.columns.Given as goal
 
 abbrev pub invariant-loop-i : goal.invariant-loop-i

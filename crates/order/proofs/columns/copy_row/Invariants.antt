@@ -1,13 +1,9 @@
 -- `copy_row` meets its contract: after k turns the first k entries are copied. Assumes nothing.
-use borrow.Author.Rules.{rules}
-use native.Mathlib.Omega.{arith}
 use Prim.Native.Nat.{◌+◌, ◌-◌, ◌≤◌}
-use native.Mathlib.Nat.{le_antisymm}
-use mathlib.Core.Path.{◌≡◌, refl, ◌∙◌}
-use lib.ListN.{length, length-set, get_or}
+use mathlib.Core.Path.{◌≡◌}
+use lib.ListN.{length, get_or}
 use lib.Ieee.{nan}
-use Rattle.method.proofs.Repeated.{repeated-none}
-use Rattle.method.proofs.Writes.{writes, writes_more}
+use Rattle.method.proofs.Writes.{writes}
 use Rattle.order.proofs.columns.copy_row.Given as goal
 
 abbrev pub invariant-loop-k : goal.invariant-loop-k

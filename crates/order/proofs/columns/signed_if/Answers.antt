@@ -1,5 +1,4 @@
 -- `signed_if` meets its contract: by the two tests. Assumes nothing.
-use borrow.Author.Rules.{rules}
 use mathlib.Core.Path.{refl, sym, ◌∙◌}
 use Rattle.order.proofs.columns.signed_if.Goals as goal
 

@@ -1,15 +1,15 @@
 -- `write_row` meets its contract: after k turns the first k entries of the row are written. Assumes nothing.
 use borrow.Author.Rules.{rules}
 use native.Mathlib.Omega.{arith}
-use Prim.Native.Nat.{ℕ, ◌+◌, ◌-◌, ◌≤◌}
+use Prim.Native.Nat.{ℕ, ◌+◌}
 use native.Mathlib.Nat.{le_antisymm}
-use mathlib.Core.Path.{◌≡◌, refl, sym, ap, ◌∙◌}
-use lib.ListN.{length, length-set, get_or, take}
+use mathlib.Core.Path.{refl, sym, ap, ◌∙◌}
+use lib.ListN.{length-set, get_or, take}
 use lib.Seq.{get_or-take}
 use lib.Ieee.{nan}
 use Rattle.method.specs.Floats.{signed_if}
 use Rattle.method.proofs.Repeated.{repeated-none}
-use Rattle.method.proofs.Writes.{writes, writes_more}
+use Rattle.method.proofs.Writes.{writes_more}
 use Rattle.method.specs.Order.{diagonal}
 use Rattle.order.specs.Laws.{listed_in, listed-few}
 use Rattle.order.proofs.columns.write_row.Goals as goal
@@ -66,22 +66,21 @@ pub bounds-a-at : goal.bounds-a-at
 bounds-a-at c = search rules
 
 pub loop-k-preserved : goal.loop-k-preserved
-loop-k-preserved c =
-    (
-      omega arith,
-      simp length-set c.loop-k.invariant.1,
-      writes_more (λ k. c.args.at + k)
-          (λ k. signed_if c.args.signs
-          (diagonal c.args.cols c.args.b.now
-          (get_or (take c.args.c c.args.p.now) k 0))
-          (get_or c.args.w.now (get_or (take c.args.c c.args.p.now) k 0) nan))
-          c.loop-k.k _ _ _
-          (c.signed_if.ensures ∙ ap
-          (λ (z : ℕ). signed_if c.args.signs (diagonal c.args.cols c.args.b.now z)
-          (get_or c.args.w.now z nan))
-          (sym (get_or-take c.args.c c.args.p.now c.loop-k.k 0 (omega arith))))
-          c.loop-k.invariant.2,
-    )
+loop-k-preserved c = (
+  omega arith,
+  simp length-set c.loop-k.invariant.1,
+  writes_more (λ k. c.args.at + k)
+      (λ k. signed_if c.args.signs
+      (diagonal c.args.cols c.args.b.now
+      (get_or (take c.args.c c.args.p.now) k 0))
+      (get_or c.args.w.now (get_or (take c.args.c c.args.p.now) k 0) nan))
+      c.loop-k.k _ _ _
+      (c.signed_if.ensures ∙ ap
+      (λ (z : ℕ). signed_if c.args.signs (diagonal c.args.cols c.args.b.now z)
+      (get_or c.args.w.now z nan))
+      (sym (get_or-take c.args.c c.args.p.now c.loop-k.k 0 (omega arith))))
+      c.loop-k.invariant.2,
+)
 
 pub returns : goal.returns
 returns c =

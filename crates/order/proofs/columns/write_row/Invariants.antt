@@ -1,17 +1,11 @@
 -- `write_row` meets its contract: after k turns the first k entries of the row are written. Assumes nothing.
-use borrow.Author.Rules.{rules}
-use native.Mathlib.Omega.{arith}
-use Prim.Native.Nat.{ℕ, ◌+◌, ◌-◌, ◌≤◌}
-use native.Mathlib.Nat.{le_antisymm}
-use mathlib.Core.Path.{◌≡◌, refl, sym, ap, ◌∙◌}
-use lib.ListN.{length, length-set, get_or, take}
-use lib.Seq.{get_or-take}
+use Prim.Native.Nat.{◌+◌, ◌-◌, ◌≤◌}
+use mathlib.Core.Path.{◌≡◌}
+use lib.ListN.{length, get_or, take}
 use lib.Ieee.{nan}
 use Rattle.method.specs.Floats.{signed_if}
-use Rattle.method.proofs.Repeated.{repeated-none}
-use Rattle.method.proofs.Writes.{writes, writes_more}
+use Rattle.method.proofs.Writes.{writes}
 use Rattle.method.specs.Order.{diagonal}
-use Rattle.order.specs.Laws.{listed_in, listed-few}
 use Rattle.order.proofs.columns.write_row.Given as goal
 
 abbrev pub invariant-loop-k : goal.invariant-loop-k

@@ -1,11 +1,7 @@
 -- `all_finite` meets its contract: after i turns the first i entries are tested. Assumes nothing.
-use borrow.Author.Rules.{rules}
 use native.Mathlib.Omega.{arith}
-use Prim.Native.Nat.{◌-◌, ◌≤◌}
 use native.Mathlib.Nat.{le_antisymm}
-use mathlib.Core.Path.{◌≡◌, refl, ◌∙◌}
-use Rattle.method.specs.Order.{diagonal}
-use Rattle.method.specs.Ordered.{all_finite}
+use mathlib.Core.Path.{refl, ◌∙◌}
 use Rattle.method.proofs.Ordered.Numbers.{finite_none, finite_next}
 use Rattle.order.specs.Laws.{entry_in, entry_few}
 use Rattle.order.proofs.ordered.all_finite.Goals as goal

@@ -1,6 +1,5 @@
 -- `move_all` meets its contract: the four steps, one after the other, by the list that the first leaves. Assumes
 -- nothing.
-use borrow.Author.Rules.{rules}
 use Rattle.method.specs.Work.{work}
 use Rattle.order.specs.Ways.{ready, moving, way_moved}
 use Rattle.order.proofs.ordered.move_all.Goals as goal

@@ -1,6 +1,5 @@
 -- `ordered_svd_decomposition` meets its contract: refused for what is lent, refused by the call beneath, or put in
 -- order. Assumes nothing.
-use borrow.Author.Rules.{rules}
 use Rattle.method.specs.Work.{work}
 use Rattle.checks.specs.Values.{settings_of}
 use Rattle.order.specs.Ways.{way_lent, way_refused, way_ordered, way_fits}

@@ -1,5 +1,4 @@
 -- `put_in_order` meets its contract: refused after the run, or moved. Assumes nothing.
-use borrow.Author.Rules.{rules}
 use Rattle.method.specs.Work.{work}
 use Rattle.svd.specs.Values.{report_of}
 use Rattle.order.specs.Ways.{ready, fine, way_after, way_put}

@@ -1,5 +1,4 @@
 -- `run_refusal` meets its contract: one check after the other, as the definition has them. Assumes nothing.
-use borrow.Author.Rules.{rules}
 use mathlib.Core.Path.{sym, ap, ◌∙◌}
 use mathlib.Core.Bool.{not}
 use Rattle.method.proofs.Checks.First.{first-hit, first-miss, first-none}

@@ -1,5 +1,4 @@
 -- `counted` meets its contract: by the test. Assumes nothing.
-use borrow.Author.Rules.{rules}
 use mathlib.Core.Path.{refl}
 use Rattle.order.proofs.places.counted.Goals as goal
 

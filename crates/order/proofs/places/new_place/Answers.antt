@@ -1,10 +1,9 @@
 -- `new_place` meets its contract: after j turns those of the first j positions that come before i are counted. Assumes
 -- nothing.
-use borrow.Author.Rules.{rules}
 use native.Mathlib.Omega.{arith}
-use Prim.Native.Nat.{ℕ, ◌-◌, ◌≤◌}
+use Prim.Native.Nat.{ℕ}
 use native.Mathlib.Nat.{le_antisymm}
-use mathlib.Core.Path.{◌≡◌, sym, ap, ◌∙◌}
+use mathlib.Core.Path.{sym, ap, ◌∙◌}
 use Rattle.method.specs.Order.{ahead, diagonal, how_many, new_place}
 use Rattle.method.proofs.Order.Places.{count-zero}
 use Rattle.order.specs.Laws.{entry_in, entry_few, count-step, pick-le}
@@ -50,14 +49,13 @@ counted-n-requires c = omega
     (arith, c.requires.0.narrow, c.requires.0.wide)
 
 pub loop-j-preserved : goal.loop-j-preserved
-loop-j-preserved c =
-    (
-      omega arith,
-      pick-le c.comes_before-test.result _ _ _ c.counted-n.ensures c.loop-j.invariant.1,
-      count-step (diagonal c.args.cols c.args.b.now) c.args.i c.loop-j.j _ _ _
-          _ _ c.magnitude-x.ensures c.magnitude-y.ensures
-          c.comes_before-test.ensures c.counted-n.ensures c.loop-j.invariant.2,
-    )
+loop-j-preserved c = (
+  omega arith,
+  pick-le c.comes_before-test.result _ _ _ c.counted-n.ensures c.loop-j.invariant.1,
+  count-step (diagonal c.args.cols c.args.b.now) c.args.i c.loop-j.j _ _ _
+      _ _ c.magnitude-x.ensures c.magnitude-y.ensures
+      c.comes_before-test.ensures c.counted-n.ensures c.loop-j.invariant.2,
+)
 
 pub returns : goal.returns
 unfolding new_place

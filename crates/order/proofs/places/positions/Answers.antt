@@ -1,11 +1,10 @@
 -- `positions` meets its contract: after i turns the first i positions stand at their new places, and no place is
 -- written twice. Assumes nothing.
-use borrow.Author.Rules.{rules}
 use native.Mathlib.Omega.{arith}
-use Prim.Native.Nat.{ℕ, ◌-◌, ◌≤◌}
+use Prim.Native.Nat.{ℕ}
 use native.Mathlib.Nat.{le_antisymm}
-use mathlib.Core.Path.{◌≡◌, refl, ap, ◌∙◌}
-use lib.ListN.{length, length-set, take}
+use mathlib.Core.Path.{refl, ap, ◌∙◌}
+use lib.ListN.{length-set, take}
 use Rattle.method.proofs.Repeated.{repeated-none}
 use Rattle.method.proofs.Writes.{writes, writes_more}
 use Rattle.method.specs.Order.{diagonal, ahead, new_place}
@@ -45,14 +44,13 @@ bounds-p-k c =
     )
 
 pub loop-i-preserved : goal.loop-i-preserved
-loop-i-preserved c =
-    (
-      omega arith,
-      simp length-set c.loop-i.invariant.1,
-      rw c.new_place-k.ensures
-          (writes_more (new_place c.args.c (ahead (diagonal c.args.cols c.args.b.now)))
-          (λ i. i) c.loop-i.i _ _ _ refl c.loop-i.invariant.2),
-    )
+loop-i-preserved c = (
+  omega arith,
+  simp length-set c.loop-i.invariant.1,
+  rw c.new_place-k.ensures
+      (writes_more (new_place c.args.c (ahead (diagonal c.args.cols c.args.b.now)))
+      (λ i. i) c.loop-i.i _ _ _ refl c.loop-i.invariant.2),
+)
 
 pub returns : goal.returns
 returns c =

@@ -1,14 +1,13 @@
 -- `values` meets its contract: after k turns the first k values are written. Assumes nothing.
-use borrow.Author.Rules.{rules}
 use native.Mathlib.Omega.{arith}
-use Prim.Native.Nat.{ℕ, ◌-◌, ◌≤◌}
+use Prim.Native.Nat.{ℕ}
 use native.Mathlib.Nat.{le_antisymm}
-use mathlib.Core.Path.{◌≡◌, refl, sym, ap, ◌∙◌}
-use lib.ListN.{length, length-set, get_or, take}
+use mathlib.Core.Path.{refl, sym, ap, ◌∙◌}
+use lib.ListN.{length-set, get_or, take}
 use lib.Seq.{get_or-take}
 use Rattle.method.specs.Floats.{magnitude}
 use Rattle.method.proofs.Repeated.{repeated-none}
-use Rattle.method.proofs.Writes.{writes, writes_more}
+use Rattle.method.proofs.Writes.{writes_more}
 use Rattle.method.specs.Order.{diagonal, values_by}
 use Rattle.order.specs.Laws.{listed_in, listed-few}
 use Rattle.order.proofs.places.values.Goals as goal
@@ -49,19 +48,18 @@ pub bounds-list-k : goal.bounds-list-k
 bounds-list-k c = omega (arith, c.requires.2)
 
 pub loop-k-preserved : goal.loop-k-preserved
-loop-k-preserved c =
-    (
-      omega arith,
-      simp length-set c.loop-k.invariant.1,
-      writes_more (λ k. k)
-          (λ k. magnitude
-          (diagonal c.args.cols c.args.b.now
-          (get_or (take c.args.c c.args.p.now) k 0))) c.loop-k.k _ _ _
-          (c.magnitude.ensures ∙ ap
-          (λ (z : ℕ). magnitude (diagonal c.args.cols c.args.b.now z))
-          (sym (get_or-take c.args.c c.args.p.now c.loop-k.k 0 (omega arith))))
-          c.loop-k.invariant.2,
-    )
+loop-k-preserved c = (
+  omega arith,
+  simp length-set c.loop-k.invariant.1,
+  writes_more (λ k. k)
+      (λ k. magnitude
+      (diagonal c.args.cols c.args.b.now
+      (get_or (take c.args.c c.args.p.now) k 0))) c.loop-k.k _ _ _
+      (c.magnitude.ensures ∙ ap
+      (λ (z : ℕ). magnitude (diagonal c.args.cols c.args.b.now z))
+      (sym (get_or-take c.args.c c.args.p.now c.loop-k.k 0 (omega arith))))
+      c.loop-k.invariant.2,
+)
 
 pub returns : goal.returns
 unfolding values_by

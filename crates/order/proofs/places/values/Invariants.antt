@@ -1,16 +1,10 @@
 -- `values` meets its contract: after k turns the first k values are written. Assumes nothing.
-use borrow.Author.Rules.{rules}
-use native.Mathlib.Omega.{arith}
-use Prim.Native.Nat.{ℕ, ◌-◌, ◌≤◌}
-use native.Mathlib.Nat.{le_antisymm}
-use mathlib.Core.Path.{◌≡◌, refl, sym, ap, ◌∙◌}
-use lib.ListN.{length, length-set, get_or, take}
-use lib.Seq.{get_or-take}
+use Prim.Native.Nat.{◌-◌, ◌≤◌}
+use mathlib.Core.Path.{◌≡◌}
+use lib.ListN.{length, get_or, take}
 use Rattle.method.specs.Floats.{magnitude}
-use Rattle.method.proofs.Repeated.{repeated-none}
-use Rattle.method.proofs.Writes.{writes, writes_more}
-use Rattle.method.specs.Order.{diagonal, values_by}
-use Rattle.order.specs.Laws.{listed_in, listed-few}
+use Rattle.method.proofs.Writes.{writes}
+use Rattle.method.specs.Order.{diagonal}
 use Rattle.order.proofs.places.values.Given as goal
 
 abbrev pub invariant-loop-k : goal.invariant-loop-k

@@ -1,5 +1,4 @@
 -- `score::Score::counted` meets its contract: each way out is one line of the definition. Assumes nothing.
-use borrow.Author.Rules.{rules}
 use Rattle.score.proofs.Score.counted.Goals as goal
 
 pub returns-then-agrees : goal.returns-then-agrees

@@ -1,6 +1,4 @@
 -- `bidiagonal` meets its contract: by whether the table is square, and if it is not, by which form. Assumes nothing.
-use borrow.Author.Rules.{rules}
-use mathlib.Core.Path.{◌∙◌}
 use Rattle.method.proofs.Bidiagonal.{bidiagonal-square}
 use Rattle.svd.specs.Values.{roomy_kept, lent_kept}
 use Rattle.svd.specs.Turns.{column_zeroed_lem, row_zeroed_lem, last_upper, last_lower, but_last}

@@ -1,5 +1,4 @@
 -- `take_col` meets its contract: the copy, the clearing, the reflection and the head, one after the other. Assumes nothing.
-use borrow.Author.Rules.{rules}
 use mathlib.Core.Path.{refl}
 use native.Mathlib.Omega.{arith}
 use Rattle.method.proofs.Index.{row_below, rows_left}

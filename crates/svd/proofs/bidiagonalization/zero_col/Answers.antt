@@ -1,5 +1,4 @@
 -- `zero_col` meets its contract: where tau is not 0 the columns right of it and U take the reflection. Assumes nothing.
-use borrow.Author.Rules.{rules}
 use Prim.Native.Nat.{◌+◌}
 use mathlib.Core.Path.{refl, ◌∙◌}
 use native.Mathlib.Omega.{arith}

@@ -1,16 +1,10 @@
 -- `zero_places` meets its contract: after k turns the lists are `places_zeroed` of k places. Assumes nothing.
-use borrow.Author.Rules.{rules}
 use Prim.Native.Nat.{◌-◌, ◌≤◌}
-use mathlib.Core.Path.{◌≡◌, refl, ◌∙◌}
-use native.Mathlib.Omega.{arith}
-use native.Mathlib.Nat.{le_antisymm}
+use mathlib.Core.Path.{◌≡◌}
 use lib.Ieee.{binary64}
-use Rattle.svd.specs.Values.{sizes, roomy_kept, lending_kept}
-use Rattle.svd.specs.Turns.{column_zeroed_lem, row_zeroed_lem, place-upper, place-lower, place_inside}
+use Rattle.svd.specs.Values.{sizes}
 use Rattle.method.specs.Work.{work}
 use Rattle.method.specs.Lengths.{SameLengths}
-use Rattle.method.proofs.Lengths.{onward}
-use Rattle.method.proofs.Repeated.{repeated-none}
 use Rattle.method.specs.Bidiagonal.{places_zeroed}
 use Rattle.svd.proofs.bidiagonalization.zero_places.Given as goal
 

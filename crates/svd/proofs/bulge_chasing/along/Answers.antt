@@ -1,5 +1,4 @@
 -- `along` meets its contract: by whether the line is a row. Assumes nothing.
-use borrow.Author.Rules.{rules}
 use mathlib.Core.Path.{refl}
 use Rattle.svd.proofs.bulge_chasing.along.Goals as goal
 

@@ -1,15 +1,10 @@
 -- `chase` meets its contract: after k turns the lists are those of k steps. Assumes nothing.
-use borrow.Author.Rules.{rules}
-use Prim.Native.Nat.{◌-◌, ◌≤◌}
-use mathlib.Core.Path.{◌≡◌, refl, ◌∙◌}
+use mathlib.Core.Path.{refl, ◌∙◌}
 use native.Mathlib.Omega.{arith}
 use native.Mathlib.Nat.{le_antisymm}
 use lib.Dec.{lit≤}
-use lib.Ieee.{binary64}
-use Rattle.svd.specs.Values.{sizes, lending_kept}
+use Rattle.svd.specs.Values.{lending_kept}
 use Rattle.svd.specs.Turns.{step_more, step_inside}
-use Rattle.method.specs.Work.{work}
-use Rattle.method.specs.Lengths.{SameLengths}
 use Rattle.method.proofs.Lengths.{onward}
 use Rattle.method.proofs.Repeated.{repeated-none}
 use Rattle.method.specs.Chase.{steps}
@@ -31,12 +26,11 @@ push-requires-in-loop-k c =
     (lit≤ tt, inside.2, inside.1, lending_kept same c.requires.1)
 
 pub loop-k-preserved : goal.loop-k-preserved
-loop-k-preserved c =
-    (
-      omega arith,
-      onward c.loop-k.invariant.1 (record { matrix = c.push-in-loop-k.auto.b ∙ c.push.auto.b; u = c.push-in-loop-k.auto.u ∙ c.push.auto.u; v = c.push-in-loop-k.auto.v ∙ c.push.auto.v }),
-      step_more _ _ _ _ _ _ _ c.loop-k.invariant.2 c.push.ensures c.push-in-loop-k.ensures,
-    )
+loop-k-preserved c = (
+  omega arith,
+  onward c.loop-k.invariant.1 (record { matrix = c.push-in-loop-k.auto.b ∙ c.push.auto.b; u = c.push-in-loop-k.auto.u ∙ c.push.auto.u; v = c.push-in-loop-k.auto.v ∙ c.push.auto.v }),
+  step_more _ _ _ _ _ _ _ c.loop-k.invariant.2 c.push.ensures c.push-in-loop-k.ensures,
+)
 
 pub returns : goal.returns
 returns c = rw (le_antisymm c.loop-k.invariant.0 c.loop-k-test.false) at c.loop-k.invariant.2

@@ -1,17 +1,10 @@
 -- `chase` meets its contract: after k turns the lists are those of k steps. Assumes nothing.
-use borrow.Author.Rules.{rules}
 use Prim.Native.Nat.{◌-◌, ◌≤◌}
-use mathlib.Core.Path.{◌≡◌, refl, ◌∙◌}
-use native.Mathlib.Omega.{arith}
-use native.Mathlib.Nat.{le_antisymm}
-use lib.Dec.{lit≤}
+use mathlib.Core.Path.{◌≡◌}
 use lib.Ieee.{binary64}
-use Rattle.svd.specs.Values.{sizes, lending_kept}
-use Rattle.svd.specs.Turns.{step_more, step_inside}
+use Rattle.svd.specs.Values.{sizes}
 use Rattle.method.specs.Work.{work}
 use Rattle.method.specs.Lengths.{SameLengths}
-use Rattle.method.proofs.Lengths.{onward}
-use Rattle.method.proofs.Repeated.{repeated-none}
 use Rattle.method.specs.Chase.{steps}
 use Rattle.svd.proofs.bulge_chasing.chase.Given as goal
 

@@ -1,13 +1,8 @@
 -- `decomp_givens` meets its contract: after `made` turns as many passes have been made, as the definition makes them. Assumes nothing.
 use borrow.Author.Rules.{rules}
-use Prim.Native.Nat.{◌-◌}
 use mathlib.Core.Path.{sym, ◌∙◌}
 use native.Mathlib.Omega.{arith}
-use borrow.Author.Tests.{ltb-true, ltb-false}
-use Rattle.method.specs.Work.{work}
-use Rattle.checks.specs.Values.{settings_of}
-use Rattle.svd.specs.Values.{sizes}
-use Rattle.svd.specs.Passes.{Inv, inv_start, drop_room, sweep_room, inv_drop, inv_sweep, inv_all, inv_narrow, inv_spent, test_asks, sweep_asks}
+use Rattle.svd.specs.Passes.{inv_start, drop_room, sweep_room, inv_drop, inv_sweep, inv_all, inv_narrow, inv_spent, test_asks, sweep_asks}
 use Rattle.svd.proofs.bulge_chasing.decomp_givens.Goals as goal
 
 pub loop-made-init : goal.loop-made-init

@@ -1,5 +1,4 @@
 -- `givens_iteration` meets its contract: the first turn, the steps and the last push, and as many rotations as the sweep has moves. Assumes nothing.
-use borrow.Author.Rules.{rules}
 use mathlib.Core.Path.{sym, ◌∙◌}
 use native.Mathlib.Omega.{arith}
 use lib.Dec.{lit≤}

@@ -1,5 +1,4 @@
 -- `is_negligible` meets its contract: the places are those of the corner. Assumes nothing.
-use borrow.Author.Rules.{rules}
 use Prim.Native.Nat.{◌+◌}
 use native.Mathlib.Omega.{arith}
 use lib.Ieee.{binary64}

@@ -1,5 +1,4 @@
 -- `push` meets its contract: the rotation of the two entries, and then the turn. Assumes nothing.
-use borrow.Author.Rules.{rules}
 use mathlib.Core.Path.{refl}
 use native.Mathlib.Omega.{arith}
 use Rattle.svd.specs.Values.{entry_inside}

@@ -1,5 +1,4 @@
 -- `turn` meets its contract: by whether the lines are rows, which U follows, or columns, which V follows. Assumes nothing.
-use borrow.Author.Rules.{rules}
 use mathlib.Core.Path.{refl}
 use Rattle.method.specs.Chase.{turned}
 use Rattle.svd.specs.Values.{rows_block, columns_block}

@@ -1,13 +1,9 @@
 -- `apply_g_left` meets its contract: after k turns a is `rows_turned` in k columns. Assumes nothing.
-use borrow.Author.Rules.{rules}
-use Prim.Native.Nat.{◌+◌, ◌-◌, ◌≤◌, zero-le}
-use mathlib.Core.Path.{◌≡◌, refl}
+use Prim.Native.Nat.{◌+◌, zero-le}
+use mathlib.Core.Path.{refl}
 use native.Mathlib.Omega.{arith}
 use native.Mathlib.Nat.{le_antisymm}
-use lib.ListN.{length}
-use lib.Ieee.{binary64}
 use Rattle.method.proofs.Index.{row_next}
-use Rattle.svd.specs.Values.{rotation}
 use Rattle.method.proofs.Repeated.{repeated-none, repeated-more}
 use Rattle.method.specs.Rotation.{rows_turned}
 use Rattle.svd.proofs.givens.apply_g_left.Goals as goal

@@ -1,14 +1,9 @@
 -- `apply_gt_right` meets its contract: after k turns a is `columns_turned` in k rows. Assumes nothing.
-use borrow.Author.Rules.{rules}
-use Prim.Native.Nat.{◌-◌, ◌≤◌, zero-le}
-use mathlib.Core.Path.{◌≡◌, refl}
-use native.Mathlib.Omega.{arith}
-use native.Mathlib.Nat.{le_antisymm}
+use Prim.Native.Nat.{◌-◌, ◌≤◌}
+use mathlib.Core.Path.{◌≡◌}
 use lib.ListN.{length}
 use lib.Ieee.{binary64}
-use Rattle.method.proofs.Index.{row_fits}
 use Rattle.svd.specs.Values.{rotation}
-use Rattle.method.proofs.Repeated.{repeated-none, repeated-more}
 use Rattle.method.specs.Rotation.{columns_turned}
 use Rattle.svd.proofs.givens.apply_gt_right.Given as goal
 

@@ -1,5 +1,4 @@
 -- `implicit_givens_rotation` meets its contract: by the three cases of the rule. Assumes nothing.
-use borrow.Author.Rules.{rules}
 use mathlib.Core.Path.{refl}
 use Rattle.method.proofs.Rotation.{rotation-zero, rotation-sine, rotation-cosine}
 use Rattle.method.proofs.Floats.{plus_zero-64, one-64}

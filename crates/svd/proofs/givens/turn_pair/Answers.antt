@@ -1,5 +1,4 @@
 -- `turn_pair` meets its contract: the two stores are `pair_turned`. Assumes nothing.
-use borrow.Author.Rules.{rules}
 use mathlib.Core.Path.{refl}
 use Rattle.method.specs.Rotation.{pair_turned}
 use Rattle.svd.proofs.givens.turn_pair.Goals as goal

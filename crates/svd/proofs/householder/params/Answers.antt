@@ -1,5 +1,4 @@
 -- `params` meets its contract: by the two cases of `reflection_of`, below the floor and not. Assumes nothing.
-use borrow.Author.Rules.{rules}
 use Prim.Native.Nat.{ℕ, ◌≤◌}
 use mathlib.Core.Path.{◌≡◌, refl, ◌∙◌}
 use native.Mathlib.Omega.{arith}

@@ -1,5 +1,4 @@
 -- `reflect_row` meets its contract: the product and then the subtraction, as `row_reflected` has them. Assumes nothing.
-use borrow.Author.Rules.{rules}
 use Rattle.method.specs.Reflection.{row_reflected}
 use Rattle.svd.proofs.householder.reflect_row.Goals as goal
 

@@ -1,11 +1,8 @@
 -- `row_less` meets its contract: after the turns up to k, a is `tail_less` of k entries, of the row whose head is done. Assumes nothing.
-use borrow.Author.Rules.{rules}
-use Prim.Native.Nat.{◌+◌, ◌-◌, ◌≤◌}
-use mathlib.Core.Path.{◌≡◌, refl}
+use mathlib.Core.Path.{refl}
 use native.Mathlib.Omega.{arith}
 use native.Mathlib.Nat.{le_antisymm}
-use lib.ListN.{length, length-set}
-use lib.Ieee.{binary64}
+use lib.ListN.{length-set}
 use Rattle.method.proofs.Repeated.{repeated-none, repeated-more}
 use Rattle.method.specs.Reflection.{row_less, tail_less}
 use Rattle.svd.proofs.householder.row_less.Goals as goal

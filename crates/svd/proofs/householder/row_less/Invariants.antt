@@ -1,13 +1,9 @@
 -- `row_less` meets its contract: after the turns up to k, a is `tail_less` of k entries, of the row whose head is done. Assumes nothing.
-use borrow.Author.Rules.{rules}
 use Prim.Native.Nat.{◌+◌, ◌-◌, ◌≤◌}
-use mathlib.Core.Path.{◌≡◌, refl}
-use native.Mathlib.Omega.{arith}
-use native.Mathlib.Nat.{le_antisymm}
-use lib.ListN.{length, length-set}
+use mathlib.Core.Path.{◌≡◌}
+use lib.ListN.{length}
 use lib.Ieee.{binary64}
-use Rattle.method.proofs.Repeated.{repeated-none, repeated-more}
-use Rattle.method.specs.Reflection.{row_less, tail_less}
+use Rattle.method.specs.Reflection.{tail_less}
 use Rattle.svd.proofs.householder.row_less.Given as goal
 
 abbrev pub invariant-loop-k : goal.invariant-loop-k

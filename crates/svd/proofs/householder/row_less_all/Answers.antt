@@ -1,11 +1,9 @@
 -- `row_less_all` meets its contract: after l turns a is `row_less_all` of l entries. Assumes nothing.
-use borrow.Author.Rules.{rules}
-use Prim.Native.Nat.{◌-◌, ◌≤◌, zero-le}
-use mathlib.Core.Path.{◌≡◌, refl}
+use Prim.Native.Nat.{zero-le}
+use mathlib.Core.Path.{refl}
 use native.Mathlib.Omega.{arith}
 use native.Mathlib.Nat.{le_antisymm}
-use lib.ListN.{length, length-set}
-use lib.Ieee.{binary64}
+use lib.ListN.{length-set}
 use Rattle.method.proofs.Repeated.{repeated-none, repeated-more}
 use Rattle.method.specs.Reflection.{row_less_all}
 use Rattle.svd.proofs.householder.row_less_all.Goals as goal

@@ -1,12 +1,8 @@
 -- `row_less_all` meets its contract: after l turns a is `row_less_all` of l entries. Assumes nothing.
-use borrow.Author.Rules.{rules}
-use Prim.Native.Nat.{◌-◌, ◌≤◌, zero-le}
-use mathlib.Core.Path.{◌≡◌, refl}
-use native.Mathlib.Omega.{arith}
-use native.Mathlib.Nat.{le_antisymm}
-use lib.ListN.{length, length-set}
+use Prim.Native.Nat.{◌-◌, ◌≤◌}
+use mathlib.Core.Path.{◌≡◌}
+use lib.ListN.{length}
 use lib.Ieee.{binary64}
-use Rattle.method.proofs.Repeated.{repeated-none, repeated-more}
 use Rattle.method.specs.Reflection.{row_less_all}
 use Rattle.svd.proofs.householder.row_less_all.Given as goal
 

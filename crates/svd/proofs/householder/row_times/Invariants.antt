@@ -1,11 +1,7 @@
 -- `row_times` meets its contract: after the turns up to k, the sum is `row_times` of k entries. Assumes nothing.
-use borrow.Author.Rules.{rules}
 use Prim.Native.Nat.{◌-◌, ◌≤◌}
 use mathlib.Core.Path.{◌≡◌}
-use native.Mathlib.Omega.{arith}
-use native.Mathlib.Nat.{le_antisymm}
 use lib.Ieee.{binary64}
-use Rattle.method.proofs.Repeated.{repeated-none, repeated-more}
 use Rattle.method.specs.Reflection.{row_times}
 use Rattle.svd.proofs.householder.row_times.Given as goal
 

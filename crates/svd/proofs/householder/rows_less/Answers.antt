@@ -1,12 +1,7 @@
 -- `rows_less` meets its contract: after the turns up to k, a is `lower_less` of k rows, once the first is done. Assumes nothing.
-use borrow.Author.Rules.{rules}
-use Prim.Native.Nat.{◌-◌, ◌≤◌}
-use mathlib.Core.Path.{◌≡◌, refl}
+use mathlib.Core.Path.{refl}
 use native.Mathlib.Omega.{arith}
 use native.Mathlib.Nat.{le_antisymm}
-use lib.ListN.{length}
-use lib.Ieee.{binary64}
-use Rattle.svd.specs.Values.{row_in_block}
 use Rattle.method.proofs.Repeated.{repeated-none, repeated-more}
 use Rattle.method.specs.Reflection.{lower_less, rows_less}
 use Rattle.svd.proofs.householder.rows_less.Goals as goal

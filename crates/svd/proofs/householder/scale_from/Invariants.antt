@@ -1,12 +1,8 @@
 -- `scale_from` meets its contract: after the turns up to k, w is `times_from` of the entries up to k. Assumes nothing.
-use borrow.Author.Rules.{rules}
 use Prim.Native.Nat.{◌-◌, ◌≤◌}
-use mathlib.Core.Path.{◌≡◌, refl}
-use native.Mathlib.Omega.{arith}
-use native.Mathlib.Nat.{le_antisymm}
-use lib.ListN.{length, length-set}
+use mathlib.Core.Path.{◌≡◌}
+use lib.ListN.{length}
 use lib.Ieee.{binary64}
-use Rattle.method.proofs.Repeated.{repeated-none, repeated-more}
 use Rattle.method.specs.Reflection.{times_from}
 use Rattle.svd.proofs.householder.scale_from.Given as goal
 

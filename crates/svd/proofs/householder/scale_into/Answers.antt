@@ -1,12 +1,9 @@
 -- `scale_into` meets its contract: after k turns w is `scaled` of k entries. Assumes nothing.
-use borrow.Author.Rules.{rules}
-use Prim.Native.Nat.{◌-◌, ◌≤◌, zero-le}
-use mathlib.Core.Path.{◌≡◌, ap, ◌∙◌}
+use Prim.Native.Nat.{zero-le}
+use mathlib.Core.Path.{ap, ◌∙◌}
 use native.Mathlib.Omega.{arith}
 use native.Mathlib.Nat.{le_antisymm}
 use lib.ListN.{length, length-set}
-use lib.Ieee.{binary64}
-use Rattle.method.specs.Settings.{most_size}
 use Rattle.method.proofs.Repeated.{repeated-none, repeated-more}
 use Rattle.method.specs.Reflection.{scaled}
 use Rattle.svd.proofs.householder.scale_into.Goals as goal

@@ -1,13 +1,6 @@
 -- `sum_columns` meets its contract: after the turns up to k, w is `rows_added` of k rows, from the copy of the first. Assumes nothing.
-use borrow.Author.Rules.{rules}
-use Prim.Native.Nat.{◌-◌, ◌≤◌}
-use mathlib.Core.Path.{◌≡◌}
 use native.Mathlib.Omega.{arith}
 use native.Mathlib.Nat.{le_antisymm}
-use lib.ListN.{length}
-use lib.Ieee.{binary64}
-use Rattle.svd.specs.Values.{row_in_block}
-use Rattle.method.specs.Settings.{most_size}
 use Rattle.method.proofs.Repeated.{repeated-none, repeated-more}
 use Rattle.method.specs.Reflection.{rows_added, column_sums}
 use Rattle.method.proofs.Reflection.{blank-length}

@@ -1,6 +1,4 @@
 -- `decompose` meets its contract: the bidiagonal form, and then passes enough. Assumes nothing.
-use borrow.Author.Rules.{rules}
-use mathlib.Core.Path.{◌∙◌}
 use native.Mathlib.Omega.{arith}
 use lib.Ieee.{binary64}
 use Rattle.method.proofs.Lengths.{bidiagonal-kept}

@@ -1,5 +1,4 @@
 -- `full_svd_decomposition` meets its contract: refused, or the whole run. Assumes nothing.
-use borrow.Author.Rules.{rules}
 use mathlib.Core.Bool.{true}
 use Rattle.method.specs.Work.{work}
 use Rattle.checks.specs.Values.{settings_of}

@@ -1,5 +1,4 @@
 -- `svd_decomposition` meets its contract: refused, or the whole run with no rows of U and V. Assumes nothing.
-use borrow.Author.Rules.{rules}
 use mathlib.Core.Bool.{false}
 use mathlib.Core.List.{[]}
 use Rattle.method.specs.Work.{work}

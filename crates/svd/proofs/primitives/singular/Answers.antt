@@ -1,5 +1,4 @@
 -- `singular` meets its contract: operation by operation. Assumes nothing.
-use borrow.Author.Rules.{rules}
 use Rattle.method.specs.Chase.{singular}
 use Rattle.method.proofs.Floats.{plus_zero-64, two-64}
 use Rattle.svd.proofs.primitives.singular.Goals as goal

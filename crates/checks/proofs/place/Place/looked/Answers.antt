@@ -1,5 +1,4 @@
 -- `Place::looked` meets its contract: by whether x is finite. Assumes nothing.
-use borrow.Author.Rules.{rules}
 use mathlib.Core.Path.{sym, ◌∙◌}
 use Rattle.method.proofs.Checks.Readings.{looked-good, looked-bad}
 use Rattle.checks.proofs.place.Place.looked.Goals as goal

@@ -1,5 +1,4 @@
 -- `Refusal::by` meets its contract: the place is nowhere. Assumes nothing.
-use borrow.Author.Rules.{rules}
 use mathlib.Core.Path.{ap}
 use Rattle.method.specs.Checks.{refusal}
 use Rattle.checks.proofs.refusal.Refusal.by.Goals as goal

@@ -1,5 +1,4 @@
 -- `Corner::dropped` meets its contract: each difference stops at 0. Assumes nothing.
-use borrow.Author.Rules.{rules}
 use mathlib.Core.Path.{refl}
 use Rattle.method.specs.Positions.{corner_dropped}
 use Rattle.svd.proofs.primitives.Corner.dropped.Goals as goal

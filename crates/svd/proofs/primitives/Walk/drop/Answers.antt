@@ -1,5 +1,4 @@
 -- `Walk::drop` meets its contract: tally and corner by their own drops, and the counter stops at 0. Assumes nothing.
-use borrow.Author.Rules.{rules}
 use mathlib.Core.Path.{refl}
 use Rattle.svd.proofs.primitives.Walk.drop.Goals as goal
 

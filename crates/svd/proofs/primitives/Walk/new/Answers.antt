@@ -1,5 +1,4 @@
 -- `Walk::new` meets its contract: the tally and the corner of a start. Assumes nothing.
-use borrow.Author.Rules.{rules}
 use mathlib.Core.Path.{refl}
 use Rattle.svd.proofs.primitives.Walk.new.Goals as goal
 

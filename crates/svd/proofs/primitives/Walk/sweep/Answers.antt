@@ -1,5 +1,4 @@
 -- `Walk::sweep` meets its contract: the tally by its own sweep, and the corner as it was. Assumes nothing.
-use borrow.Author.Rules.{rules}
 use mathlib.Core.Path.{refl}
 use Rattle.svd.proofs.primitives.Walk.sweep.Goals as goal
 

@@ -1,6 +1,5 @@
 -- `Report::accepted` meets its contract: nothing is refused, and the word is by the range, and then by the corner.
 -- Assumes nothing.
-use borrow.Author.Rules.{rules}
 use mathlib.Core.Path.{sym, ◌∙◌}
 use mathlib.Core.List.{List, []}
 use lib.Ieee.{Float}

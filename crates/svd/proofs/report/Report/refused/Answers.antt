@@ -1,5 +1,4 @@
 -- `Report::refused` meets its contract: the refusal as it is, and nothing counted. Assumes nothing.
-use borrow.Author.Rules.{rules}
 use mathlib.Core.Path.{refl}
 use Rattle.svd.proofs.report.Report.refused.Goals as goal
 

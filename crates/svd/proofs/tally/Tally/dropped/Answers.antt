@@ -1,5 +1,4 @@
 -- `Tally::dropped` meets its contract: field by field. Assumes nothing.
-use borrow.Author.Rules.{rules}
 use mathlib.Core.Path.{refl}
 use Rattle.svd.proofs.tally.Tally.dropped.Goals as goal
 

@@ -1,5 +1,4 @@
 -- `Tally::swept` meets its contract: field by field. Assumes nothing.
-use borrow.Author.Rules.{rules}
 use mathlib.Core.Path.{refl}
 use Rattle.svd.proofs.tally.Tally.swept.Goals as goal
 
