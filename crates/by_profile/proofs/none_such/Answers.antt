@@ -1,5 +1,4 @@
 -- `none_such` meets its contract: by its one test. Assumes nothing.
-use borrow.Author.Rules.{rules}
 use mathlib.Core.Path.{refl}
 use borrow.Author.Tests.{eq-eqb, ne_eqb}
 use Rattle.method.specs.Checks.First.{or_else}

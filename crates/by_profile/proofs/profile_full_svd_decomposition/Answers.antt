@@ -1,5 +1,4 @@
 -- `profile_full_svd_decomposition` meets its contract: refused, or the call with the profile's settings. Assumes nothing.
-use borrow.Author.Rules.{rules}
 use mathlib.Core.Bool.{true}
 use Rattle.method.specs.Work.{work}
 use Rattle.by_profile.specs.Ways.{way_none, way_settings}

@@ -1,6 +1,5 @@
 -- `profile_ordered_svd_decomposition` meets its contract: refused, or the call with the profile's settings. Assumes
 -- nothing.
-use borrow.Author.Rules.{rules}
 use Rattle.method.specs.Work.{work}
 use Rattle.by_profile.specs.Ways.{way_ordered_none, way_ordered_settings}
 use Rattle.by_profile.proofs.profile_ordered_svd_decomposition.Goals as goal

@@ -1,5 +1,4 @@
 -- `profile_svd_decomposition` meets its contract: refused, or the call with the profile's settings. Assumes nothing.
-use borrow.Author.Rules.{rules}
 use mathlib.Core.Bool.{false}
 use mathlib.Core.List.{[]}
 use Rattle.method.specs.Work.{work}
