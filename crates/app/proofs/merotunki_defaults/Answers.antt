@@ -1,5 +1,4 @@
 -- `merotunki_defaults` meets its contract: the defaults of the call beneath, field by field. Assumes nothing.
-use borrow.Author.Rules.{rules}
 use Rattle.app.proofs.merotunki_defaults.Goals as goal
 
 pub returns : goal.returns

@@ -1,6 +1,5 @@
 -- `merotunki_full_svd` meets its contract: it tells the report of the call beneath, which leaves the lists. Assumes
 -- nothing.
-use borrow.Author.Rules.{rules}
 use Rattle.app.specs.Answers.{told_of}
 use Rattle.app.proofs.merotunki_full_svd.Goals as goal
 

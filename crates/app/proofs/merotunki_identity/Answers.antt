@@ -1,5 +1,4 @@
 -- `merotunki_identity` meets its contract: it is the fill beneath. Assumes nothing.
-use borrow.Author.Rules.{rules}
 use Rattle.app.proofs.merotunki_identity.Goals as goal
 
 pub returns : goal.returns

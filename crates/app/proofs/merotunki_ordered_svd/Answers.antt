@@ -1,6 +1,5 @@
 -- `merotunki_ordered_svd` meets its contract: it tells the report of the call beneath, which leaves the lists. Assumes
 -- nothing.
-use borrow.Author.Rules.{rules}
 use Rattle.app.specs.Answers.{told-in_order}
 use Rattle.app.proofs.merotunki_ordered_svd.Goals as goal
 

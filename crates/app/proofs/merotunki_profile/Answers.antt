@@ -1,5 +1,4 @@
 -- `merotunki_profile` meets its contract: what the function beneath picks, field by field. Assumes nothing.
-use borrow.Author.Rules.{rules}
 use Rattle.app.proofs.merotunki_profile.Goals as goal
 
 pub returns : goal.returns

@@ -1,6 +1,5 @@
 -- `merotunki_row` meets its contract: the part has the view's length n, and row k begins at entry k * n. Assumes
 -- nothing.
-use borrow.Author.Rules.{rules}
 use native.Mathlib.Omega.{arith}
 use Rattle.app.specs.Row.{no_part, lies}
 use Rattle.app.proofs.merotunki_row.Goals as goal

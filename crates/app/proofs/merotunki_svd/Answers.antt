@@ -1,5 +1,4 @@
 -- `merotunki_svd` meets its contract: it tells the report of the call beneath, which leaves the table. Assumes nothing.
-use borrow.Author.Rules.{rules}
 use Rattle.app.specs.Answers.{told_of}
 use Rattle.app.proofs.merotunki_svd.Goals as goal
 

@@ -1,5 +1,4 @@
 -- `tell` meets its contract: field by field, the word by its number. Assumes nothing.
-use borrow.Author.Rules.{rules}
 use mathlib.Core.Path.{refl}
 use Rattle.app.proofs.tell.Goals as goal
 
