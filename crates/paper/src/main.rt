@@ -12,8 +12,18 @@ ghost use Rattle.std.specs.Prelude.{◌≡◌, length};
 
 use crate::page::put_page;
 use crate::reading::{Reading, read};
-use libc::{STDERR_FILENO, STDIN_FILENO, STDOUT_FILENO};
+use console::read_full;
+use std::io;
+use std::io::Write;
+use text::fields::find;
 use text::writing::{put, put_decimal};
+
+// Room for the input and one byte more: an input that fills it is too long.
+fn room() -> [u8; 65536]
+    ensures { 65536 ≡ length result }
+{
+    [0; 65536]
+}
 
 // Room for one page.
 fn blank() -> [u8; 8192]
@@ -22,45 +32,48 @@ fn blank() -> [u8; 8192]
     [0; 8192]
 }
 
-// Writes the first `end` bytes of out. False where that fails, or where they had no room.
-fn write_first(out: &[u8], end: usize) -> bool {
-    if end <= out.len() {
-        io::write_all(STDOUT_FILENO, &out[0..end])
+// Writes the first `end` bytes of text. False where that fails, or where they had no room.
+fn write_first<W: Write>(out: &mut W, text: &[u8], end: usize) -> bool {
+    if end <= text.len() {
+        out.write_all(&text[0..end]).is_ok()
     } else {
         false
     }
 }
 
 // The line as it was given, the page of the number x that it says, and an empty line.
-fn print_page(line: &[u8], x: f64) -> bool {
-    if !io::write_all(STDOUT_FILENO, line) {
+fn print_page<W: Write>(out: &mut W, line: &[u8], x: f64) -> bool {
+    if out.write_all(line).is_err() {
         return false;
     }
-    let mut out = blank();
-    let a = put(&mut out, 0, b"\n");
-    let b = put_page(&mut out, a, x);
-    let c = put(&mut out, b, b"\n");
-    write_first(&out, c)
+    let mut text = blank();
+    let a = put(&mut text, 0, b"\n");
+    let b = put_page(&mut text, a, x);
+    let c = put(&mut text, b, b"\n");
+    write_first(out, &text, c)
 }
 
 // What is wrong with a line, by its number.
-fn print_wrong(number: u64, words: &[u8]) -> bool {
-    let mut out = blank();
-    let a = put(&mut out, 0, b"line ");
-    let b = put_decimal(&mut out, a, number);
-    let c = put(&mut out, b, b": ");
-    let d = put(&mut out, c, words);
-    let e = put(&mut out, d, b"\n");
-    write_first(&out, e)
+fn print_wrong<W: Write>(out: &mut W, number: u64, words: &[u8]) -> bool {
+    let mut text = blank();
+    let a = put(&mut text, 0, b"line ");
+    let b = put_decimal(&mut text, a, number);
+    let c = put(&mut text, b, b": ");
+    let d = put(&mut text, c, words);
+    let e = put(&mut text, d, b"\n");
+    write_first(out, &text, e)
 }
 
 // What there is to say of a line.
-fn print_line(line: &[u8], number: u64) -> bool {
+fn print_line<W: Write>(out: &mut W, line: &[u8], number: u64) -> bool {
     match read(line) {
-        Reading::Double(x) => print_page(line, x),
-        Reading::Empty => print_wrong(number, b"empty"),
-        Reading::NoNumber => { print_wrong(number, b"neither a decimal number nor 16 hex digits") }
+        Reading::Double(x) => print_page(out, line, x),
+        Reading::Empty => print_wrong(out, number, b"empty"),
+        Reading::NoNumber => {
+            print_wrong(out, number, b"neither a decimal number nor 16 hex digits")
+        }
         Reading::TooLong => print_wrong(
+            out,
             number,
             b"more digits than a decimal is read exactly with; give the 16 hex digits",
         ),
@@ -68,13 +81,13 @@ fn print_line(line: &[u8], number: u64) -> bool {
 }
 
 // One line after the other; false as soon as one cannot be written.
-fn print_lines(text: &[u8]) -> bool {
+fn print_lines<W: Write>(out: &mut W, text: &[u8]) -> bool {
     let mut number: u64 = 0;
     let mut at = 0;
     while at < text.len() {
-        let end = bytes::scan::find(text, at, text.len(), b'\n');
+        let end = find(text, at, b'\n');
         number += 1;
-        if !print_line(&text[at..end], number) {
+        if !print_line(out, &text[at..end], number) {
             return false;
         }
         at = end;
@@ -85,16 +98,25 @@ fn print_lines(text: &[u8]) -> bool {
     true
 }
 
-fn fail(words: &[u8]) {
-    io::write_all(STDERR_FILENO, words);
+// Says on standard error what failed.
+fn fail<W: Write>(err: &mut W, words: &[u8]) -> io::Result<()> {
+    err.write_all(words)
 }
 
-fn main() {
-    let mut text = io::large_buffer();
-    let n = io::read_full(STDIN_FILENO, &mut text);
+fn main(rt: HostRuntime) -> io::Result<()> {
+    let mut text = room();
+    let n = read_full(&mut rt.stdin(), &mut text)?;
     if n >= text.len() {
-        fail(b"paper: the input is too long: at most 65535 bytes are read\n");
-    } else if !print_lines(&text[0..n]) {
-        fail(b"paper: the output could not be written\n");
+        return fail(
+            &mut rt.stderr(),
+            b"paper: the input is too long: at most 65535 bytes are read\n",
+        );
     }
+    if !print_lines(&mut rt.stdout(), &text[0..n]) {
+        return fail(
+            &mut rt.stderr(),
+            b"paper: the output could not be written\n",
+        );
+    }
+    Ok(())
 }

@@ -8,7 +8,10 @@ mod row;
 ghost use Rattle.std.specs.Prelude.{◌≡◌, length};
 
 use crate::row::{agrees, is_wrong};
+use console::{print_decimal, read_full};
 use score::Score;
+use std::io;
+use std::io::Write;
 
 // Room for the rows and more: a list that filled it would end within a row.
 fn blank() -> [u8; 200000]
@@ -18,45 +21,46 @@ fn blank() -> [u8; 200000]
 }
 
 // Compares a row, and prints it where it is not as told.
-fn step(row: &[u8], score: Score) -> Score
+fn step<W: Write>(out: &mut W, row: &[u8], score: Score) -> io::Result<Score>
     requires { length row.now ≡ 55 }
 {
     let wrong = is_wrong(row);
     let same = agrees(row);
     if same == wrong {
-        io::write_all(1, row);
+        out.write_all(row)?;
     }
-    score.counted(wrong, same)
+    Ok(score.counted(wrong, same))
 }
 
 // Compares every row; a rest that is no row counts as one that differs.
-fn compare(list: &[u8]) -> Score {
+fn compare<W: Write>(out: &mut W, list: &[u8]) -> io::Result<Score> {
     let mut score = Score::new();
     let mut at = 0;
     while list.len() - at >= 55 {
         let end = at + 55;
-        score = step(&list[at..end], score);
+        score = step(out, &list[at..end], score)?;
         at = end;
     }
     if at < list.len() {
-        io::write_all(1, &list[at..]);
+        out.write_all(&list[at..])?;
         score = score.counted(false, false);
     }
-    score
+    Ok(score)
 }
 
 // A number and the words behind it.
-fn print(number: u64, words: &[u8]) {
-    io::print_decimal(1, number);
-    io::write_all(1, words);
+fn print<W: Write>(out: &mut W, number: u64, words: &[u8]) -> io::Result<()> {
+    print_decimal(out, number)?;
+    out.write_all(words)
 }
 
-fn main() {
+fn main(rt: HostRuntime) -> io::Result<()> {
+    let mut out = rt.stdout();
     let mut list = blank();
-    let n = io::read_full(0, &mut list);
-    let score = compare(&list[..n]);
-    print(score.right, b" rows compared, ");
-    print(score.differ, b" differ; ");
-    print(score.wrong, b" wrong on purpose, ");
-    print(score.found, b" found\n");
+    let n = read_full(&mut rt.stdin(), &mut list)?;
+    let score = compare(&mut out, &list[..n])?;
+    print(&mut out, score.right, b" rows compared, ")?;
+    print(&mut out, score.differ, b" differ; ")?;
+    print(&mut out, score.wrong, b" wrong on purpose, ")?;
+    print(&mut out, score.found, b" found\n")
 }

@@ -4,7 +4,9 @@
 
 ghost use Rattle.std.specs.Prelude.{◌≡◌, length};
 
-use libc::{STDERR_FILENO, STDIN_FILENO, STDOUT_FILENO};
+use console::read_full;
+use std::io;
+use std::io::{Read, Write};
 use survey::{ENOUGH, ROOM};
 
 // What was read: how many bytes, which are all of the input or fill the room for them.
@@ -22,34 +24,32 @@ fn blank() -> [u8; ROOM]
 }
 
 // Reads until text is full, the input ends or a read fails.
-fn read_input(text: &mut [u8]) -> Input {
-    let mut n = 0;
-    while n < text.len() {
-        let got = libc::read(STDIN_FILENO, &mut text[n..]);
-        let more = io::count(got, &text[n..]);
-        if more == 0 {
-            if got < 0 {
-                return Input::Failed;
-            }
-            return Input::Read(n);
-        }
-        n += more;
+fn read_input<R: Read>(input: &mut R, text: &mut [u8]) -> Input {
+    match read_full(input, text) {
+        Ok(n) => Input::Read(n),
+        Err(_) => Input::Failed,
     }
-    Input::Read(n)
 }
 
-fn main() {
+// Says on standard error what failed.
+fn fail<W: Write>(err: &mut W, words: &[u8]) -> io::Result<()> {
+    err.write_all(words)
+}
+
+fn main(rt: HostRuntime) -> io::Result<()> {
     let mut text = [0u8; ENOUGH];
-    match read_input(&mut text) {
+    match read_input(&mut rt.stdin(), &mut text) {
         Input::Read(n) => {
             let mut out = blank();
             let k = survey::split_input(&text, n, &mut out);
-            if !io::write_all(STDOUT_FILENO, &out[..k]) {
-                io::write_all(STDERR_FILENO, b"split: the output could not be written\n");
+            if rt.write_all(&out[..k]).is_err() {
+                return fail(
+                    &mut rt.stderr(),
+                    b"split: the output could not be written\n",
+                );
             }
+            Ok(())
         }
-        Input::Failed => {
-            io::write_all(STDERR_FILENO, b"split: the input could not be read\n");
-        }
+        Input::Failed => fail(&mut rt.stderr(), b"split: the input could not be read\n"),
     }
 }

@@ -7,8 +7,10 @@
 
 ghost use Rattle.std.specs.Prelude.{◌≡◌, ◌+◌, ◌≤◌, ◌<◌, length};
 
-use check::same;
+use console::{print_decimal, read_full};
 use score::Score;
+use std::io;
+use std::io::Write;
 use survey::ROOM;
 use text::numerals::{Number, value};
 
@@ -59,7 +61,7 @@ fn end_of(list: &[u8], at: usize) -> usize
 fn agrees(text: &[u8], answer: &[u8]) -> bool {
     let mut out = blank();
     let n = survey::split_text(text, &mut out);
-    same(&out[..n], answer)
+    &out[..n] == answer
 }
 
 // Whether the piece is the sizes, a text and its answer, and they agree.
@@ -79,46 +81,47 @@ fn piece_agrees(piece: &[u8]) -> bool {
 }
 
 // A number and the words behind it.
-fn print(number: u64, words: &[u8]) {
-    io::print_decimal(1, number);
-    io::write_all(1, words);
+fn print<W: Write>(out: &mut W, number: u64, words: &[u8]) -> io::Result<()> {
+    print_decimal(out, number)?;
+    out.write_all(words)
 }
 
 // Compares a piece and counts it. Prints its number, among the right or the wrong ones, where it is
 // not as told.
-fn step(piece: &[u8], score: Score) -> Score
+fn step<W: Write>(out: &mut W, piece: &[u8], score: Score) -> io::Result<Score>
     requires { 0 < length piece.now }
 {
     let wrong = piece[0] == b'!';
     let same = piece_agrees(piece);
     let next = score.counted(wrong, same);
     if wrong && same {
-        print(next.wrong, b" is wrong on purpose and was not found\n");
+        print(out, next.wrong, b" is wrong on purpose and was not found\n")?;
     }
     if !wrong && !same {
-        print(next.right, b" differs\n");
+        print(out, next.right, b" differs\n")?;
     }
-    next
+    Ok(next)
 }
 
 // Compares every text of the list; a rest that is no text with its answer counts as one.
-fn compare(list: &[u8]) -> Score {
+fn compare<W: Write>(out: &mut W, list: &[u8]) -> io::Result<Score> {
     let mut score = Score::new();
     let mut at = 0;
     while at < list.len() {
         let end = end_of(list, at);
-        score = step(&list[at..end], score);
+        score = step(out, &list[at..end], score)?;
         at = end;
     }
-    score
+    Ok(score)
 }
 
-fn main() {
+fn main(rt: HostRuntime) -> io::Result<()> {
+    let mut out = rt.stdout();
     let mut list = whole();
-    let n = io::read_full(0, &mut list);
-    let score = compare(&list[..n]);
-    print(score.right, b" texts compared, ");
-    print(score.differ, b" differ; ");
-    print(score.wrong, b" wrong on purpose, ");
-    print(score.found, b" found\n");
+    let n = read_full(&mut rt.stdin(), &mut list)?;
+    let score = compare(&mut out, &list[..n])?;
+    print(&mut out, score.right, b" texts compared, ")?;
+    print(&mut out, score.differ, b" differ; ")?;
+    print(&mut out, score.wrong, b" wrong on purpose, ")?;
+    print(&mut out, score.found, b" found\n")
 }

@@ -12,24 +12,28 @@ mod totals;
 
 use crate::replay::{Seen, next_run};
 use crate::totals::Totals;
+use std::io;
+use std::io::{Read, Write};
 
 // Replays the next run and counts it.
-fn step(totals: Totals) -> Totals {
-    match next_run() {
-        Seen::End => totals.ended(),
-        Seen::Malformed(wrong) => totals.malformed(wrong),
-        Seen::Run(made) => totals.counted(made),
+fn step<R: Read, W: Write>(input: &mut R, out: &mut W, totals: Totals) -> io::Result<Totals> {
+    match next_run(input)? {
+        Seen::End => Ok(totals.ended()),
+        Seen::Malformed(wrong) => totals.malformed(out, wrong),
+        Seen::Run(made) => totals.counted(out, made),
     }
 }
 
 // A proved loop has to end, and nothing says that the input does: so the turns are counted down from
 // a number that no input uses up.
-fn main() {
+fn main(rt: HostRuntime) -> io::Result<()> {
+    let mut input = rt.stdin();
+    let mut out = rt.stdout();
     let mut totals = Totals::new();
     let mut turns = u64::MAX;
     while turns > 0 && totals.more {
-        totals = step(totals);
+        totals = step(&mut input, &mut out, totals)?;
         turns -= 1;
     }
-    totals.print();
+    totals.print(&mut out)
 }

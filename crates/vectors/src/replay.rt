@@ -10,6 +10,8 @@ use by_profile::{
     profile_full_svd_decomposition, profile_ordered_svd_decomposition, profile_svd_decomposition,
 };
 use order::ordered::ordered_svd_decomposition;
+use std::io;
+use std::io::Read;
 use svd::interface::{full_svd_decomposition, svd_decomposition};
 use svd::report::Report;
 
@@ -250,22 +252,29 @@ fn put_in_order(
 
 // Reads what the lists are to be afterwards; of a refused call they are to be as they are. Whether
 // it is there.
-fn read_after(b2: &mut [f64], u2: &mut [f64], v2: &mut [f64], answer: &Answer) -> bool {
+fn read_after<R: Read>(
+    input: &mut R,
+    b2: &mut [f64],
+    u2: &mut [f64],
+    v2: &mut [f64],
+    answer: &Answer,
+) -> io::Result<bool> {
     if number_in(answer) != 0 {
-        return true;
+        return Ok(true);
     }
-    if !read_list(b2) {
-        return false;
+    if !read_list(input, b2)? {
+        return Ok(false);
     }
-    if !read_list(u2) {
-        return false;
+    if !read_list(input, u2)? {
+        return Ok(false);
     }
-    read_list(v2)
+    read_list(input, v2)
 }
 
 // Makes the lists, which are what the accumulating call is to leave, what the ordered one is to leave
 // of b, u and v. Whether it is there.
-fn read_ordered(
+fn read_ordered<R: Read>(
+    input: &mut R,
     b: &[f64],
     u: &[f64],
     v: &[f64],
@@ -274,31 +283,38 @@ fn read_ordered(
     v2: &mut [f64],
     values2: &mut [f64],
     answer: &Answer,
-) -> bool
+) -> io::Result<bool>
     requires { (length b.now ≡ length b2.old) × (length u.now ≡ length u2.old)
         × (length v.now ≡ length v2.old) }
 {
     let number = number_in(answer);
     if number == 0 {
-        return read_after(values2, u2, v2, answer);
+        return read_after(input, values2, u2, v2, answer);
     }
     if number == 12 || number == 13 {
-        return true;
+        return Ok(true);
     }
     copy_lists(b, u, v, b2, u2, v2);
-    true
+    Ok(true)
 }
 
 // Reads what the lists are; whether it is there.
-fn read_before(b: &mut [f64], u: &mut [f64], v: &mut [f64], head: Head) -> bool {
-    if !read_list(b) {
-        return false;
+fn read_before<R: Read>(
+    input: &mut R,
+    b: &mut [f64],
+    u: &mut [f64],
+    v: &mut [f64],
+    head: Head,
+) -> io::Result<bool> {
+    if !read_list(input, b)? {
+        return Ok(false);
     }
-    begin(u, v, head)
+    begin(input, u, v, head)
 }
 
 // The run of which all but the ordered call is known: that call's answer stands next.
-fn ordered_next(
+fn ordered_next<R: Read>(
+    input: &mut R,
     b: &mut [f64],
     u: &mut [f64],
     v: &mut [f64],
@@ -309,22 +325,23 @@ fn ordered_next(
     values2: &mut [f64],
     head: Head,
     both: Both,
-) -> Seen
+) -> io::Result<Seen>
     requires { (length b.old ≡ length b2.old) × (length u.old ≡ length u2.old)
         × (length v.old ≡ length v2.old) }
 {
     let mut answer = answer_room();
-    if !read_answer(&mut answer) {
-        return Seen::Malformed(head.differ > 0);
+    if !read_answer(input, &mut answer)? {
+        return Ok(Seen::Malformed(head.differ > 0));
     }
-    if !read_ordered(b, u, v, b2, u2, v2, values2, &answer) {
-        return Seen::Malformed(head.differ > 0);
+    if !read_ordered(input, b, u, v, b2, u2, v2, values2, &answer)? {
+        return Ok(Seen::Malformed(head.differ > 0));
     }
-    Seen::Run(put_in_order(b, u, v, values, b2, u2, v2, values2, head, both, &answer))
+    Ok(Seen::Run(put_in_order(b, u, v, values, b2, u2, v2, values2, head, both, &answer)))
 }
 
 // The run whose first answer this is: b, u and v hold the lists, b2, u2 and v2 what they are to be.
-fn replayed(
+fn replayed<R: Read>(
+    input: &mut R,
     b: &mut [f64],
     u: &mut [f64],
     v: &mut [f64],
@@ -335,7 +352,7 @@ fn replayed(
     values2: &mut [f64],
     head: Head,
     answer: &Answer,
-) -> Seen
+) -> io::Result<Seen>
     requires { (length b.old ≡ length b2.old) × (length u.old ≡ length u2.old)
         × (length v.old ≡ length v2.old) }
 {
@@ -343,13 +360,13 @@ fn replayed(
     let nu = u.len();
     let nv = v.len();
     if n > 2401 {
-        return Seen::Malformed(head.differ > 0);
+        return Ok(Seen::Malformed(head.differ > 0));
     }
     if nu > 2401 {
-        return Seen::Malformed(head.differ > 0);
+        return Ok(Seen::Malformed(head.differ > 0));
     }
     if nv > 2401 {
-        return Seen::Malformed(head.differ > 0);
+        return Ok(Seen::Malformed(head.differ > 0));
     }
     let mut c = blank();
     let mut cu = blank();
@@ -368,13 +385,14 @@ fn replayed(
         answer,
     );
     if head.kept < 2 {
-        return Seen::Run(judged(head, both, true, false));
+        return Ok(Seen::Run(judged(head, both, true, false)));
     }
-    ordered_next(b, u, v, values, b2, u2, v2, values2, head, both)
+    ordered_next(input, b, u, v, values, b2, u2, v2, values2, head, both)
 }
 
 // The run whose answer stands next: b, u and v hold the lists, b2, u2 and v2 copies of them.
-fn answered(
+fn answered<R: Read>(
+    input: &mut R,
     b: &mut [f64],
     u: &mut [f64],
     v: &mut [f64],
@@ -384,22 +402,23 @@ fn answered(
     v2: &mut [f64],
     values2: &mut [f64],
     head: Head,
-) -> Seen
+) -> io::Result<Seen>
     requires { (length b.old ≡ length b2.old) × (length u.old ≡ length u2.old)
         × (length v.old ≡ length v2.old) }
 {
     let mut answer = answer_room();
-    if !read_answer(&mut answer) {
-        return Seen::Malformed(head.differ > 0);
+    if !read_answer(input, &mut answer)? {
+        return Ok(Seen::Malformed(head.differ > 0));
     }
-    if !read_after(b2, u2, v2, &answer) {
-        return Seen::Malformed(head.differ > 0);
+    if !read_after(input, b2, u2, v2, &answer)? {
+        return Ok(Seen::Malformed(head.differ > 0));
     }
-    replayed(b, u, v, values, b2, u2, v2, values2, head, &answer)
+    replayed(input, b, u, v, values, b2, u2, v2, values2, head, &answer)
 }
 
 // The run of this head, in lists that are as long as it says.
-fn run_in(
+fn run_in<R: Read>(
+    input: &mut R,
     b: &mut [f64],
     u: &mut [f64],
     v: &mut [f64],
@@ -409,34 +428,34 @@ fn run_in(
     v2: &mut [f64],
     values2: &mut [f64],
     head: Head,
-) -> Seen
+) -> io::Result<Seen>
     requires { (length b.old ≡ length b2.old) × (length u.old ≡ length u2.old)
         × (length v.old ≡ length v2.old) }
 {
-    if !read_before(b, u, v, head) {
-        return Seen::Malformed(head.differ > 0);
+    if !read_before(input, b, u, v, head)? {
+        return Ok(Seen::Malformed(head.differ > 0));
     }
     copy_lists(b, u, v, b2, u2, v2);
-    answered(b, u, v, values, b2, u2, v2, values2, head)
+    answered(input, b, u, v, values, b2, u2, v2, values2, head)
 }
 
 // The run of this head.
-fn run_of(head: Head) -> Seen {
+fn run_of<R: Read>(input: &mut R, head: Head) -> io::Result<Seen> {
     let n = head.matrix;
     let nu = head.u;
     let nv = head.v;
     let nw = head.values;
     if n > 2401 {
-        return Seen::Malformed(head.differ > 0);
+        return Ok(Seen::Malformed(head.differ > 0));
     }
     if nu > 2401 {
-        return Seen::Malformed(head.differ > 0);
+        return Ok(Seen::Malformed(head.differ > 0));
     }
     if nv > 2401 {
-        return Seen::Malformed(head.differ > 0);
+        return Ok(Seen::Malformed(head.differ > 0));
     }
     if nw > 2401 {
-        return Seen::Malformed(head.differ > 0);
+        return Ok(Seen::Malformed(head.differ > 0));
     }
     let mut b = blank();
     let mut u = blank();
@@ -447,6 +466,7 @@ fn run_of(head: Head) -> Seen {
     let mut v2 = blank();
     let mut values2 = blank();
     run_in(
+        input,
         &mut b[..n],
         &mut u[..nu],
         &mut v[..nv],
@@ -460,10 +480,10 @@ fn run_of(head: Head) -> Seen {
 }
 
 // Reads and replays the next run.
-pub(crate) fn next_run() -> Seen {
-    match read_head() {
-        Found::End => Seen::End,
-        Found::Malformed => Seen::Malformed(false),
-        Found::Head(head) => run_of(head),
+pub(crate) fn next_run<R: Read>(input: &mut R) -> io::Result<Seen> {
+    match read_head(input)? {
+        Found::End => Ok(Seen::End),
+        Found::Malformed => Ok(Seen::Malformed(false)),
+        Found::Head(head) => run_of(input, head),
     }
 }

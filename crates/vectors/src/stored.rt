@@ -18,7 +18,10 @@ ghost use Rattle.std.specs.Prelude.{◌≡◌, ◌≤◌, length};
 
 use crate::bits::{decode, word};
 use checks::settings::Settings;
+use console::read_full;
 use factors::identity::identity_flat;
+use std::io;
+use std::io::Read;
 use svd::report::Report;
 
 // What is asked of the calls, and how long the lists are.
@@ -164,42 +167,42 @@ fn is_fit(head: Head) -> bool {
 }
 
 // Reads the next head.
-pub(crate) fn read_head() -> Found {
+pub(crate) fn read_head<R: Read>(input: &mut R) -> io::Result<Found> {
     let mut bytes = head_room();
-    let n = io::read_full(0, &mut bytes);
+    let n = read_full(input, &mut bytes)?;
     if n == 0 {
-        return Found::End;
+        return Ok(Found::End);
     }
     if n < 112 {
-        return Found::Malformed;
+        return Ok(Found::Malformed);
     }
     let head = head_of(&bytes);
     if is_fit(head) {
-        Found::Head(head)
+        Ok(Found::Head(head))
     } else {
-        Found::Malformed
+        Ok(Found::Malformed)
     }
 }
 
 // Reads the next answer; whether it is there.
-pub(crate) fn read_answer(answer: &mut Answer) -> bool {
-    io::read_full(0, answer) == 80
+pub(crate) fn read_answer<R: Read>(input: &mut R, answer: &mut Answer) -> io::Result<bool> {
+    Ok(read_full(input, answer)? == 80)
 }
 
 // Fills the list from the next words, for which there is just the room; whether they are there.
-fn read_by(room: &mut [u8], list: &mut [f64]) -> bool {
-    let n = io::read_full(0, room);
-    n == room.len() && decode(room, list)
+fn read_by<R: Read>(input: &mut R, room: &mut [u8], list: &mut [f64]) -> io::Result<bool> {
+    let n = read_full(input, room)?;
+    Ok(n == room.len() && decode(room, list))
 }
 
 // Fills the list from the next words; whether they are there.
-pub(crate) fn read_list(list: &mut [f64]) -> bool {
+pub(crate) fn read_list<R: Read>(input: &mut R, list: &mut [f64]) -> io::Result<bool> {
     let mut room = list_room();
     if list.len() > 2401 {
-        return false;
+        return Ok(false);
     }
     let n = 8 * list.len();
-    read_by(&mut room[..n], list)
+    read_by(input, &mut room[..n], list)
 }
 
 // Fills U and V with the identity; whether they are as long as it is.
@@ -211,12 +214,17 @@ fn fill(u: &mut [f64], v: &mut [f64], head: Head) -> bool {
 }
 
 // Makes U and V what they are at the start; whether that can be.
-pub(crate) fn begin(u: &mut [f64], v: &mut [f64], head: Head) -> bool {
+pub(crate) fn begin<R: Read>(
+    input: &mut R,
+    u: &mut [f64],
+    v: &mut [f64],
+    head: Head,
+) -> io::Result<bool> {
     if head.kept > 0 && head.start == 0 {
-        return fill(u, v, head);
+        return Ok(fill(u, v, head));
     }
-    if !read_list(u) {
-        return false;
+    if !read_list(input, u)? {
+        return Ok(false);
     }
-    read_list(v)
+    read_list(input, v)
 }

@@ -1,6 +1,9 @@
 // What has been counted of the runs, from what the calls answered, and how it is printed.
 use crate::replay::Made;
+use console::print_decimal;
 use score::Score;
+use std::io;
+use std::io::Write;
 use svd::report::{Report, Word};
 
 #[derive(Clone, Copy)]
@@ -24,9 +27,9 @@ fn plus(a: u64, b: u64) -> u64 {
 }
 
 // A number and the words behind it.
-fn print(number: u64, words: &[u8]) {
-    io::print_decimal(1, number);
-    io::write_all(1, words);
+fn print<W: Write>(out: &mut W, number: u64, words: &[u8]) -> io::Result<()> {
+    print_decimal(out, number)?;
+    out.write_all(words)
 }
 
 impl Totals {
@@ -53,29 +56,33 @@ impl Totals {
     }
 
     // One run more.
-    pub(crate) fn counted(self, made: Made) -> Totals {
+    pub(crate) fn counted<W: Write>(self, out: &mut W, made: Made) -> io::Result<Totals> {
         let report = made.report;
-        let totals = self.scored(made.wrong, made.agrees);
+        let totals = self.scored(out, made.wrong, made.agrees)?;
         if made.wrong {
-            totals
+            Ok(totals)
         } else {
-            totals.answered(report, made.in_order, made.by)
+            Ok(totals.answered(report, made.in_order, made.by))
         }
     }
 
     // One run more, of which only this is known. Prints its number, among the right or the wrong
     // ones, where it is not as told.
-    fn scored(mut self, wrong: bool, agrees: bool) -> Totals {
+    fn scored<W: Write>(mut self, out: &mut W, wrong: bool, agrees: bool) -> io::Result<Totals> {
         let before = self.score;
         let score = before.counted(wrong, agrees);
         if wrong && agrees {
-            print(score.wrong, b" is wrong on purpose and was not found\n");
+            print(
+                out,
+                score.wrong,
+                b" is wrong on purpose and was not found\n",
+            )?;
         }
         if !wrong && !agrees {
-            print(score.right, b" differs\n");
+            print(out, score.right, b" differs\n")?;
         }
         self.score = score;
-        self
+        Ok(self)
     }
 
     // The same, of which the library answered this, and put its values in order or not, by a profile or
@@ -107,24 +114,25 @@ impl Totals {
     }
 
     // The rest is no run: it counts as one, and ends the input.
-    pub(crate) fn malformed(self, wrong: bool) -> Totals {
-        self.scored(wrong, false).ended()
+    pub(crate) fn malformed<W: Write>(self, out: &mut W, wrong: bool) -> io::Result<Totals> {
+        let totals = self.scored(out, wrong, false)?;
+        Ok(totals.ended())
     }
 
     // A line such as "9 runs: 2 refused, 4 settled, 2 stopped, 1 quiet, 70 passes, 3 in order, 2 by
     // profile, 0 differ; 5 wrong on purpose, 5 found".
-    pub(crate) fn print(self) {
+    pub(crate) fn print<W: Write>(self, out: &mut W) -> io::Result<()> {
         let score = self.score;
-        print(score.right, b" runs: ");
-        print(self.refused, b" refused, ");
-        print(self.settled, b" settled, ");
-        print(self.stopped, b" stopped, ");
-        print(self.quiet, b" quiet, ");
-        print(self.passes, b" passes, ");
-        print(self.in_order, b" in order, ");
-        print(self.by_profile, b" by profile, ");
-        print(score.differ, b" differ; ");
-        print(score.wrong, b" wrong on purpose, ");
-        print(score.found, b" found\n");
+        print(out, score.right, b" runs: ")?;
+        print(out, self.refused, b" refused, ")?;
+        print(out, self.settled, b" settled, ")?;
+        print(out, self.stopped, b" stopped, ")?;
+        print(out, self.quiet, b" quiet, ")?;
+        print(out, self.passes, b" passes, ")?;
+        print(out, self.in_order, b" in order, ")?;
+        print(out, self.by_profile, b" by profile, ")?;
+        print(out, score.differ, b" differ; ")?;
+        print(out, score.wrong, b" wrong on purpose, ")?;
+        print(out, score.found, b" found\n")
     }
 }
