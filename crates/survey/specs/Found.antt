@@ -6,8 +6,8 @@ use Rattle.std.proofs.Math.Option.{Option, none, some}
 use Rattle.survey.specs.declared.reading.Entry.{Entry}
 use Rattle.text.specs.Text.{Bytes, space, ◌>>=◌, when, cut, number}
 use Rattle.survey.specs.Form.{named, entry_line, most_line, short, Got, malformed, got, and_then}
-use Rattle.text.specs.Options.{bind_some, when-some}
-use Rattle.text.specs.Numerals.{number-range}
+use Rattle.text.proofs.Options.{bind_some, when-some}
+use Rattle.text.proofs.NumeralLaws.{number-range}
 
 -- what an entry is held to
 pub record InRange (e : Entry) : Type 0 where

@@ -7,7 +7,7 @@ use Rattle.std.proofs.Math.ListN.{take}
 use Rattle.survey.specs.declared.reading.Entry.{Entry}
 use Rattle.text.specs.Text.{Bytes, LF, number, found}
 use Rattle.text.specs.Code.{or_zero}
-use Rattle.text.specs.Numerals.{number-pos, number-range}
+use Rattle.text.proofs.NumeralLaws.{number-pos, number-range}
 use Rattle.survey.specs.Form.{entry_line, count_line, malformed, got, and_then, contents, head}
 use Rattle.survey.specs.declared.reading.Head.{Head}
 use Rattle.survey.specs.Code.{or_none, headed}

@@ -6,7 +6,7 @@ use Rattle.std.proofs.Math.Option.{Option, none, some}
 use Rattle.std.proofs.lemmas.Bool.{lt-leb}
 use Rattle.survey.specs.declared.reading.Entry.{Entry}
 use Rattle.text.specs.Text.{Bytes, LF, ◌>>=◌, when, cut}
-use Rattle.text.specs.Numerals.{number-range}
+use Rattle.text.proofs.NumeralLaws.{number-range}
 use Rattle.survey.specs.Sizes.{longest, enough}
 use Rattle.survey.specs.Form.{count_line, entry_line, row_line, most_line, short, Got, malformed, got, line, and_then, contents, head, body, bodies, reading}
 use Rattle.survey.specs.Print.{printed, split}

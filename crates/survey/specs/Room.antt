@@ -11,8 +11,8 @@ use Rattle.method.specs.Outcome.{Outcome, plain_outcome}
 use Rattle.method.specs.Defaults.{defaults}
 use Rattle.survey.specs.declared.reading.Entry.{Entry}
 use Rattle.text.specs.Text.{Bytes, LF, ◌>>=◌, cut, shown, ending, line_text}
-use Rattle.text.specs.Numerals.{number-range}
-use Rattle.text.specs.Writing.{length-shown, places-most}
+use Rattle.text.proofs.NumeralLaws.{number-range}
+use Rattle.text.proofs.WritingLaws.{length-shown, places-most}
 use Rattle.survey.specs.Sizes.{room}
 use Rattle.survey.specs.Form.{count_line, entry_line, row_line, short, Got, malformed, got, line, and_then, contents, head, body, bodies, reading}
 use Rattle.survey.specs.Print.{rows_text, refused_word, word_text, report_text, refused_text, outcome_text, survey_text, surveys_text, malformed_text, printed, split}

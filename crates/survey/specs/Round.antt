@@ -13,8 +13,8 @@ use Rattle.survey.specs.Found.{InRange, short-some}
 use Rattle.survey.specs.LineSize.{row_short, entry_size, count-size}
 use Rattle.survey.specs.Whole.{All}
 use Rattle.survey.specs.Print.{hex, row_text, rows_text}
-use Rattle.text.specs.Cuts.{Free, cut-free, free_append}
-use Rattle.text.specs.Round.{pattern-round, digits-free, number-round, shown-free}
+use Rattle.text.proofs.Cuts.{Free, cut-free, free_append}
+use Rattle.text.proofs.Round.{pattern-round, digits-free, number-round, shown-free}
 
 -- ---- a reading's 16 digits
 

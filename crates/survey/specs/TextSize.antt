@@ -4,7 +4,7 @@ use Rattle.std.proofs.Common.{ap, arith, suc-mul, zero-mul, length-append}
 use Rattle.std.proofs.Math.Option.{Option, none, some}
 use Rattle.survey.specs.declared.reading.Entry.{Entry}
 use Rattle.text.specs.Text.{Bytes, LF, ◌>>=◌, cut}
-use Rattle.text.specs.Numerals.{number-range}
+use Rattle.text.proofs.NumeralLaws.{number-range}
 use Rattle.survey.specs.Sizes.{longest}
 use Rattle.survey.specs.Form.{count_line, entry_line, row_line, short, Got, malformed, got, line, and_then, contents, head, body, bodies, reading}
 use Rattle.survey.specs.Found.{then_got}

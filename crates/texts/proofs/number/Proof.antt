@@ -5,8 +5,8 @@ use native.Mathlib.Omega.{arith}
 use borrow.Author.Rules.{rules}
 use lib.ListN.{length, take, drop, length-drop}
 use lib.Seq.{length-take-le}
-use Rattle.text.specs.Options.{is_some}
-use Rattle.text.specs.Numerals.{numeral-below}
+use Rattle.text.proofs.Options.{is_some}
+use Rattle.text.proofs.NumeralLaws.{numeral-below}
 use Rattle.texts.proofs.number.Statement.{statement}
 use Rattle.texts.proofs.number.Tie as tie
 

@@ -8,7 +8,7 @@ use lib.ListN.{drop, length}
 use Rattle.survey.specs.Bodies.{body-none, body-bad, body-next, body_end, body-stored, room}
 use Rattle.text.specs.Text.{when}
 use Rattle.survey.specs.Code.{placed}
-use Rattle.text.specs.Cuts.{found-least}
+use Rattle.text.proofs.Cuts.{found-least}
 use Rattle.survey.proofs.reading.body.Goals as goal
 
 taken : {A : Type 0} (r : Bool) (a : A) (o : Option A) → r ≡ true → when r a ≡ o → some a ≡ o
