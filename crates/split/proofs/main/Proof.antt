@@ -4,7 +4,7 @@ use Prim.Native.Nat.{◌≤◌}
 use borrow.Author.Rules.{rules}
 use lib.ListN.{length}
 use lib.Seq.{length-take-le}
-use Rattle.survey.specs.Answers.{same_long}
+use Rattle.survey.proofs.Answers.{same_long}
 use Rattle.split.proofs.main.Statement.{statement}
 use Rattle.split.proofs.main.Tie as tie
 

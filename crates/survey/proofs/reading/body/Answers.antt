@@ -5,7 +5,7 @@ use mathlib.Core.Path.{◌≡◌, sym, ap, ◌∙◌}
 use Prim.Native.Nat.{ℕ, ◌+◌, ◌-◌, ◌*◌, ◌<◌}
 use native.Mathlib.Omega.{arith}
 use lib.ListN.{drop, length}
-use Rattle.survey.specs.Bodies.{body-none, body-bad, body-next, body_end, body-stored, room}
+use Rattle.survey.proofs.Bodies.{body-none, body-bad, body-next, body_end, body-stored, room}
 use Rattle.text.specs.Text.{when}
 use Rattle.survey.specs.Code.{placed}
 use Rattle.text.proofs.Cuts.{found-least}

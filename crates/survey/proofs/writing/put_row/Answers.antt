@@ -4,7 +4,7 @@ use Prim.Native.Nat.{◌+◌, ◌-◌}
 use native.Mathlib.Omega.{arith}
 use lib.ListN.{drop}
 use Rattle.text.proofs.WritingLaws.{wrote, nothing, then}
-use Rattle.survey.specs.Writing.{hex-wrote, row_more, row_last, row_done}
+use Rattle.survey.proofs.WritingLaws.{hex-wrote, row_more, row_last, row_done}
 use Rattle.survey.proofs.writing.put_row.Goals as goal
 
 pub loop-k-init : goal.loop-k-init

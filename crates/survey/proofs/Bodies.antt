@@ -13,8 +13,8 @@ use Rattle.text.proofs.Digits.{sets_append}
 use Rattle.text.proofs.Cuts.{cut-some, cut-none}
 use Rattle.survey.specs.Form.{row_line, Got, malformed, got, line, and_then, body}
 use Rattle.survey.specs.Code.{row_stored, body_into, body_stored}
-use Rattle.survey.specs.Found.{short-some, short_none}
-use Rattle.survey.specs.LineSize.{row_short, line-size}
+use Rattle.survey.proofs.Found.{short-some, short_none}
+use Rattle.survey.proofs.LineSize.{row_short, line-size}
 
 -- ---- a line by its rule
 

@@ -11,9 +11,9 @@ use Rattle.text.proofs.NumeralLaws.{number-pos, number-range}
 use Rattle.survey.specs.Form.{entry_line, count_line, malformed, got, and_then, contents, head}
 use Rattle.survey.specs.declared.reading.Head.{Head}
 use Rattle.survey.specs.Code.{or_none, headed}
-use Rattle.survey.specs.Found.{entry_range}
-use Rattle.survey.specs.LineSize.{count-size, entry_size}
-use Rattle.survey.specs.Bodies.{line-none, line-bad, line-got}
+use Rattle.survey.proofs.Found.{entry_range}
+use Rattle.survey.proofs.LineSize.{count-size, entry_size}
+use Rattle.survey.proofs.Bodies.{line-none, line-bad, line-got}
 
 -- the code's entry of zeros says that there is none
 pub entry_known : (es : List Entry) (l : Bytes) (x : Entry) → x ≡ or_none (entry_line es l)

@@ -7,7 +7,7 @@ use Rattle.survey.specs.declared.reading.Entry.{Entry}
 use Rattle.text.specs.Text.{Bytes, LF, space, ◌>>=◌, cut, number, pattern}
 use Rattle.text.proofs.Options.{bind_some}
 use Rattle.survey.specs.Form.{count_line, entry_line, row_line, short, malformed, got, line}
-use Rattle.survey.specs.Found.{short-was}
+use Rattle.survey.proofs.Found.{short-was}
 use Rattle.text.proofs.Cuts.{cut-size}
 use Rattle.text.proofs.NumeralLaws.{number_size, pattern-size}
 
