@@ -1,20 +1,9 @@
--- The survey text: its form, what `split` prints of it, and the laws.
+-- The survey text: its form, what `split` prints of it, and what the code promises. Definitions only; what is proved of
+-- them is in proofs/.
 pub mod Form
 pub mod Sizes
 pub mod Print
 pub mod Code
-pub mod Lines
 pub mod Found
-pub mod LineSize
-pub mod Bodies
-pub mod Heads
-pub mod Verdict
-pub mod Writing
-pub mod Whole
-pub mod TextSize
-pub mod Room
-pub mod Prefix
-pub mod Round
 pub mod Answers
 pub mod Surveys
-pub mod Example

@@ -1,10 +1,4 @@
--- Texts as bytes: what they say, how they are written, and the laws of both.
+-- Texts as bytes: what they say and how they are written. Definitions only; what is proved of them is in proofs/.
 pub mod Text
 pub mod Code
-pub mod Options
-pub mod Digits
-pub mod Numerals
-pub mod Cuts
 pub mod Writing
-pub mod Round
-pub mod Answers

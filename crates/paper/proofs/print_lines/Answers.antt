@@ -1,6 +1,6 @@
 -- The end of a line is not before the line.
 use Rattle.std.proofs.Common.{◌≡◌, ℕ, ◌≤◌, List, rules, arith, length}
-use Rattle.text.specs.Cuts.{found-least}
+use Rattle.text.proofs.Cuts.{found-least}
 use Rattle.text.specs.Text.{found}
 use Rattle.paper.proofs.print_lines.Goals as goal
 

@@ -11,7 +11,7 @@ use Rattle.method.specs.Defaults.{defaults}
 use Rattle.svd.specs.Values.{report_of}
 use Rattle.text.specs.Writing.{Wrote}
 use Rattle.survey.specs.Print.{survey_text, outcome_text}
-use Rattle.survey.specs.Whole.{area}
+use Rattle.survey.proofs.Whole.{area}
 use Rattle.survey.proofs.put_survey.Goals as goal
 
 pub decomposed-report-requires : goal.decomposed-report-requires

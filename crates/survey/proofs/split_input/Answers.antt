@@ -5,7 +5,7 @@ use native.Mathlib.Omega.{arith}
 use lib.ListN.{length}
 use lib.Seq.{length-take-le, take_all}
 use Rattle.survey.specs.Sizes.{enough}
-use Rattle.survey.specs.Answers.{input_promised}
+use Rattle.survey.proofs.Answers.{input_promised}
 use Rattle.survey.proofs.split_input.Goals as goal
 
 pub slice_bounds-split_text-end : goal.slice_bounds-split_text-end

@@ -11,10 +11,11 @@ use Rattle.survey.specs.declared.reading.Entry.{Entry}
 use Rattle.text.specs.Text.{Bytes, Written}
 use Rattle.survey.specs.Sizes.{room}
 use Rattle.survey.specs.Print.{split}
-use Rattle.survey.specs.Lines.{zeros}
-use Rattle.survey.specs.Whole.{left, range, turn-bad, turn-got, area, begin_bad, begin_got, done_whole, done_extra}
-use Rattle.text.specs.Writing.{Wrote, nothing, then}
-use Rattle.survey.specs.Room.{split-most}
+use Rattle.survey.proofs.Lines.{zeros}
+use Rattle.survey.proofs.Whole.{left, range, turn-bad, turn-got, area, begin_bad, begin_got, done_whole, done_extra}
+use Rattle.text.specs.Writing.{Wrote}
+use Rattle.text.proofs.WritingLaws.{nothing, then}
+use Rattle.survey.proofs.Room.{split-most}
 use Rattle.survey.proofs.split_text.Invariants.{Held}
 use Rattle.survey.proofs.split_text.Goals as goal
 

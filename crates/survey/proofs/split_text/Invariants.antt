@@ -10,7 +10,7 @@ use Rattle.survey.specs.declared.reading.Entry.{Entry}
 use Rattle.text.specs.Text.{Bytes}
 use Rattle.survey.specs.Sizes.{room}
 use Rattle.survey.specs.Print.{split}
-use Rattle.survey.specs.Whole.{All, left}
+use Rattle.survey.proofs.Whole.{All, left}
 use Rattle.text.specs.Writing.{Wrote}
 use Rattle.survey.proofs.split_text.Given as goal
 

@@ -1,7 +1,7 @@
 -- Six digits say less than a million.
 use Rattle.std.proofs.Common.{◌≡◌, ℕ, ◌+◌, ◌^◌, ◌<◌, rules, arith, length, slice_range, ap}
-use Rattle.text.specs.Options.{is_some}
-use Rattle.text.specs.Numerals.{numeral-below}
+use Rattle.text.proofs.Options.{is_some}
+use Rattle.text.proofs.NumeralLaws.{numeral-below}
 use Rattle.texts.proofs.number.Goals as goal
 
 pub returns-in-Is : goal.returns-in-Is

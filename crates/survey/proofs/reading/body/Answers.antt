@@ -5,10 +5,10 @@ use mathlib.Core.Path.{◌≡◌, sym, ap, ◌∙◌}
 use Prim.Native.Nat.{ℕ, ◌+◌, ◌-◌, ◌*◌, ◌<◌}
 use native.Mathlib.Omega.{arith}
 use lib.ListN.{drop, length}
-use Rattle.survey.specs.Bodies.{body-none, body-bad, body-next, body_end, body-stored, room}
+use Rattle.survey.proofs.Bodies.{body-none, body-bad, body-next, body_end, body-stored, room}
 use Rattle.text.specs.Text.{when}
 use Rattle.survey.specs.Code.{placed}
-use Rattle.text.specs.Cuts.{found-least}
+use Rattle.text.proofs.Cuts.{found-least}
 use Rattle.survey.proofs.reading.body.Goals as goal
 
 taken : {A : Type 0} (r : Bool) (a : A) (o : Option A) → r ≡ true → when r a ≡ o → some a ≡ o

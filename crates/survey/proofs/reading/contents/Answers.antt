@@ -3,7 +3,7 @@ use mathlib.Core.Path.{sym, ◌∙◌}
 use Prim.Native.Nat.{◌<◌}
 use native.Mathlib.Omega.{arith}
 use lib.ListN.{length}
-use Rattle.survey.specs.Heads.{headed-bad, head-none, head-bad, head-got, number-most}
+use Rattle.survey.proofs.Heads.{headed-bad, head-none, head-bad, head-got, number-most}
 use Rattle.survey.proofs.reading.contents.Goals as goal
 
 pub returns-then-f-text : goal.returns-then-f-text

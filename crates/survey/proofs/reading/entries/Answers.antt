@@ -4,8 +4,8 @@ use mathlib.Core.Path.{◌≡◌, refl, sym, ◌∙◌}
 use Prim.Native.Nat.{◌+◌, ◌-◌, ◌<◌}
 use native.Mathlib.Omega.{arith}
 use lib.ListN.{drop, length, length-set}
-use Rattle.survey.specs.Heads.{headed-got, headed-bad, contents-none, contents-bad, contents-next, contents-end}
-use Rattle.text.specs.Cuts.{found-least}
+use Rattle.survey.proofs.Heads.{headed-got, headed-bad, contents-none, contents-bad, contents-next, contents-end}
+use Rattle.text.proofs.Cuts.{found-least}
 use Rattle.survey.proofs.reading.entries.Goals as goal
 
 pub loop-i-init : goal.loop-i-init

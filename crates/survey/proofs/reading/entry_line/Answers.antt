@@ -9,8 +9,8 @@ use Rattle.text.specs.Text.{when}
 use Rattle.survey.specs.declared.reading.Entry.{Entry}
 use Rattle.survey.specs.Form.{entry_line}
 use Rattle.survey.specs.Code.{or_none}
-use Rattle.survey.specs.Lines.{entry_none, entry_none_2, entry_id, entry_rows, entry_cols, entry_last}
-use Rattle.text.specs.Cuts.{found-least}
+use Rattle.survey.proofs.Lines.{entry_none, entry_none_2, entry_id, entry_rows, entry_cols, entry_last}
+use Rattle.text.proofs.Cuts.{found-least}
 use Rattle.survey.proofs.reading.entry_line.Goals as goal
 
 pub returns-then-a-l : goal.returns-then-a-l

@@ -3,7 +3,7 @@ use mathlib.Core.Path.{◌≡◌, refl, sym, ◌∙◌}
 use Prim.Native.Nat.{◌≤◌}
 use native.Mathlib.Omega.{arith}
 use lib.ListN.{length}
-use Rattle.survey.specs.Lines.{named_here, named-next, named_end}
+use Rattle.survey.proofs.Lines.{named_here, named-next, named_end}
 use Rattle.survey.proofs.reading.named.Goals as goal
 
 pub loop-i-init : goal.loop-i-init

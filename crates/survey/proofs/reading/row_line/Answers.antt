@@ -4,9 +4,9 @@ use Prim.Native.Nat.{◌+◌, ◌-◌, ◌<◌}
 use native.Mathlib.Omega.{arith}
 use lib.ListN.{length}
 use Rattle.text.specs.Text.{when}
-use Rattle.text.specs.Options.{is_some, is_none}
-use Rattle.survey.specs.Lines.{row_none, row_bad, row_next, row_last, row_last_bad, row_stored_lem}
-use Rattle.text.specs.Cuts.{found-least}
+use Rattle.text.proofs.Options.{is_some, is_none}
+use Rattle.survey.proofs.Lines.{row_none, row_bad, row_next, row_last, row_last_bad, row_stored_lem}
+use Rattle.text.proofs.Cuts.{found-least}
 use Rattle.survey.proofs.reading.row_line.Goals as goal
 
 pub loop-k-init : goal.loop-k-init

@@ -1,7 +1,7 @@
 -- `survey::writing::put_malformed` meets its contract: the fields one after the other. Assumes nothing.
 use Rattle.text.specs.Text.{ending, line_text}
-use Rattle.text.specs.Writing.{wrote, then}
-use Rattle.survey.specs.Writing.{malformed_is}
+use Rattle.text.proofs.WritingLaws.{wrote, then}
+use Rattle.survey.proofs.WritingLaws.{malformed_is}
 use Rattle.survey.proofs.writing.put_malformed.Goals as goal
 
 pub returns : goal.returns

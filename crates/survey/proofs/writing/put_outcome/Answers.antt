@@ -7,9 +7,9 @@ use Rattle.method.specs.Work.{work}
 use Rattle.method.specs.Outcome.{Outcome, outcome_of}
 use Rattle.svd.specs.Values.{report_of}
 use Rattle.svd.specs.declared.report.Report.{Report}
-use Rattle.text.specs.Writing.{then}
+use Rattle.text.proofs.WritingLaws.{then}
 use Rattle.survey.specs.declared.reading.Entry.{Entry}
-use Rattle.survey.specs.Writing.{outcome-refused, rows_taken, outcome-accepted}
+use Rattle.survey.proofs.WritingLaws.{outcome-refused, rows_taken, outcome-accepted}
 use Rattle.survey.proofs.writing.put_outcome.Goals as goal
 
 -- what the call said, as the method's outcome

@@ -1,6 +1,6 @@
 -- `survey::writing::put_refused` meets its contract: the fields one after the other. Assumes nothing.
 use Rattle.text.specs.Text.{ending, line_text}
-use Rattle.text.specs.Writing.{wrote, then}
+use Rattle.text.proofs.WritingLaws.{wrote, then}
 use Rattle.survey.specs.Print.{refused_text}
 use Rattle.survey.proofs.writing.put_refused.Goals as goal
 

@@ -3,8 +3,8 @@ use mathlib.Core.Path.{◌≡◌, refl, ◌∙◌}
 use Prim.Native.Nat.{◌+◌, ◌-◌}
 use native.Mathlib.Omega.{arith}
 use lib.ListN.{drop}
-use Rattle.text.specs.Writing.{wrote, nothing, then}
-use Rattle.survey.specs.Writing.{hex-wrote, row_more, row_last, row_done}
+use Rattle.text.proofs.WritingLaws.{wrote, nothing, then}
+use Rattle.survey.proofs.WritingLaws.{hex-wrote, row_more, row_last, row_done}
 use Rattle.survey.proofs.writing.put_row.Goals as goal
 
 pub loop-k-init : goal.loop-k-init

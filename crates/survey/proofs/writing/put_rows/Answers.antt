@@ -4,8 +4,8 @@ use Prim.Native.Nat.{◌-◌, ◌*◌}
 use native.Mathlib.Nat.{zero-mul}
 use native.Mathlib.Omega.{arith}
 use lib.ListN.{drop}
-use Rattle.text.specs.Writing.{nothing, then}
-use Rattle.survey.specs.Writing.{rows_next, rows_end, times_next, times_below}
+use Rattle.text.proofs.WritingLaws.{nothing, then}
+use Rattle.survey.proofs.WritingLaws.{rows_next, rows_end, times_next, times_below}
 use Rattle.survey.proofs.writing.put_rows.Goals as goal
 
 pub loop-j-init : goal.loop-j-init

@@ -1,5 +1,5 @@
 -- `survey::writing::put_word` meets its contract: each word its own bytes. Assumes nothing.
-use Rattle.text.specs.Writing.{wrote}
+use Rattle.text.proofs.WritingLaws.{wrote}
 use Rattle.survey.proofs.writing.put_word.Goals as goal
 
 pub returns-in-None : goal.returns-in-None

@@ -3,7 +3,7 @@ use Rattle.std.proofs.Common.{◌≡◌, ◌≤◌, ◌+◌, ℕ, Bool, true, fa
 use Rattle.std.proofs.Math.Dec.{leb}
 use borrow.Author.Tests.{leb-true, leb-false}
 use Rattle.text.specs.Text.{Bytes, found, index_of}
-use Rattle.text.specs.Cuts.{index_most, found_inside, found-outside, found-next, found-here}
+use Rattle.text.proofs.Cuts.{index_most, found_inside, found-outside, found-next, found-here}
 use Rattle.text.proofs.fields.find.Goals as goal
 
 -- once every byte is passed, the search has found the end

@@ -1,5 +1,5 @@
 -- `text::numerals::digit` meets its contract: the two ranges of digits. Assumes nothing.
-use Rattle.text.specs.Digits.{digit_low, digit-high}
+use Rattle.text.proofs.Digits.{digit_low, digit-high}
 use Rattle.text.proofs.numerals.digit.Goals as goal
 
 pub returns-then-d-lt10 : goal.returns-then-d-lt10

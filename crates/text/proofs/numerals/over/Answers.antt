@@ -1,5 +1,5 @@
 -- `text::numerals::over` meets its contract: a small v leaves room for any digit, and else the division tells. Assumes nothing.
-use Rattle.text.specs.Numerals.{over_small, over_large}
+use Rattle.text.proofs.NumeralLaws.{over_small, over_large}
 use Rattle.text.proofs.numerals.over.Goals as goal
 
 pub returns-then-v-lt1152921504606846976 : goal.returns-then-v-lt1152921504606846976

@@ -1,5 +1,5 @@
 -- `text::numerals::pattern` meets its contract: 16 digits, or none. Assumes nothing.
-use Rattle.text.specs.Numerals.{pattern-numeral, pattern-not}
+use Rattle.text.proofs.NumeralLaws.{pattern-numeral, pattern-not}
 use Rattle.text.proofs.numerals.pattern.Goals as goal
 
 pub returns-then-l-eq16 : goal.returns-then-l-eq16

@@ -2,7 +2,7 @@
 use mathlib.Core.Path.{refl}
 use Prim.Native.Nat.{◌<◌}
 use native.Mathlib.Omega.{arith}
-use Rattle.text.specs.Writing.{places-most, places-next, places-end}
+use Rattle.text.proofs.WritingLaws.{places-most, places-next, places-end}
 use Rattle.text.proofs.numerals.places.Goals as goal
 
 pub loop-rest-init : goal.loop-rest-init

@@ -3,8 +3,8 @@ use mathlib.Core.Path.{refl, sym, ◌∙◌}
 use Prim.Native.Nat.{◌+◌, ◌*◌, ◌^◌, ◌<◌, ◌≤◌}
 use native.Mathlib.Omega.{arith}
 use borrow.Author.Tests.{leb-true, leb-false}
-use Rattle.text.specs.Digits.{value-next}
-use Rattle.text.specs.Numerals.{numeral-unbased, numeral-stop, numeral-over, numeral-end}
+use Rattle.text.proofs.Digits.{value-next}
+use Rattle.text.proofs.NumeralLaws.{numeral-unbased, numeral-stop, numeral-over, numeral-end}
 use Rattle.text.proofs.numerals.value.Goals as goal
 
 pub returns-then-base-gt16 : goal.returns-then-base-gt16

@@ -1,6 +1,6 @@
 -- `text::numerals::whole` meets its contract: a law for each way out. Assumes nothing.
 use native.Mathlib.Omega.{arith}
-use Rattle.text.specs.Numerals.{number-empty, number-zero, number_is, number-over, number-not}
+use Rattle.text.proofs.NumeralLaws.{number-empty, number-zero, number_is, number-over, number-not}
 use Rattle.text.proofs.numerals.whole.Goals as goal
 
 pub returns-then-l-eq0 : goal.returns-then-l-eq0

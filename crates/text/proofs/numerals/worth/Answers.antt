@@ -1,5 +1,5 @@
 -- `text::numerals::worth` meets its contract: each range of bytes has its own way out. Assumes nothing.
-use Rattle.text.specs.Digits.{worth-below, worth-decimal, worth-between, worth-letter, worth-above}
+use Rattle.text.proofs.Digits.{worth-below, worth-decimal, worth-between, worth-letter, worth-above}
 use Rattle.text.proofs.numerals.worth.Goals as goal
 
 pub returns-then-b-lt48 : goal.returns-then-b-lt48

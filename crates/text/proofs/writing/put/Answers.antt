@@ -1,6 +1,6 @@
 -- `text::writing::put` meets its contract: the bytes stored where there is room, and nothing where there is none. Assumes nothing.
 use mathlib.Core.Path.{refl, sym, ◌∙◌}
-use Rattle.text.specs.Writing.{put_room, put_none}
+use Rattle.text.proofs.WritingLaws.{put_room, put_none}
 use Rattle.text.proofs.writing.put.Goals as goal
 
 pub returns-then-room : goal.returns-then-room

@@ -3,7 +3,7 @@
 use mathlib.Core.Path.{sym, ap, ◌∙◌}
 use Prim.Native.Nat.{◌+◌}
 use native.Mathlib.Omega.{arith}
-use Rattle.text.specs.Writing.{put_room, put_none, places-most, length-field, field_stored}
+use Rattle.text.proofs.WritingLaws.{put_room, put_none, places-most, length-field, field_stored}
 use Rattle.text.proofs.writing.put_field.Goals as goal
 
 pub overflow_add-k : goal.overflow_add-k

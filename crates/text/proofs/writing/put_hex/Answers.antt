@@ -1,7 +1,7 @@
 -- `text::writing::put_hex` meets its contract: the digits stored where there is room, and nothing where there is none. Assumes nothing.
 use mathlib.Core.Path.{sym, ◌∙◌}
-use Rattle.text.specs.Digits.{length_digits}
-use Rattle.text.specs.Writing.{put_room, put_none}
+use Rattle.text.proofs.Digits.{length_digits}
+use Rattle.text.proofs.WritingLaws.{put_room, put_none}
 use Rattle.text.proofs.writing.put_hex.Goals as goal
 
 pub returns-then-room : goal.returns-then-room

@@ -3,7 +3,7 @@ use mathlib.Core.Path.{sym}
 use Prim.Native.Nat.{◌+◌}
 use native.Mathlib.Omega.{arith}
 use borrow.Author.Tests.{lt-leb}
-use Rattle.text.specs.Writing.{room-left}
+use Rattle.text.proofs.WritingLaws.{room-left}
 use Rattle.text.proofs.writing.room.Goals as goal
 
 pub returns-then-at-n : goal.returns-then-at-n

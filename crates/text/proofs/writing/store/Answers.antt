@@ -3,7 +3,7 @@ use mathlib.Core.Path.{◌≡◌, refl, sym, ◌∙◌}
 use Prim.Native.Nat.{◌+◌}
 use native.Mathlib.Omega.{arith}
 use lib.ListN.{length, length-set}
-use Rattle.text.specs.Writing.{sets_next, sets_end}
+use Rattle.text.proofs.WritingLaws.{sets_next, sets_end}
 use Rattle.text.proofs.writing.store.Goals as goal
 
 pub loop-i-init : goal.loop-i-init

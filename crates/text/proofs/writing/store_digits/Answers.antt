@@ -4,7 +4,7 @@ use Prim.Native.Nat.{◌<◌}
 use native.Mathlib.Nat.{mod-lt}
 use native.Mathlib.Omega.{arith}
 use lib.ListN.{length-set}
-use Rattle.text.specs.Digits.{digits-none, digits-next}
+use Rattle.text.proofs.Digits.{digits-none, digits-next}
 use Rattle.text.proofs.writing.store_digits.Goals as goal
 
 pub loop-j-init : goal.loop-j-init

@@ -12,8 +12,8 @@ use Rattle.std.proofs.Math.ListN.{length}
 use Rattle.text.specs.declared.numerals.Number.TheVariants.{Is, Not}
 use Rattle.text.specs.Text.{Bytes, ◌>>=◌, when, worth, value, numeral, decimal, number, pattern}
 use Rattle.text.specs.Code.{number_of, or_zero}
-use Rattle.text.specs.Options.{bind_some, when-some, and_both, is_some, is_none}
-use Rattle.text.specs.Digits.{value-next, value-stop, value-end}
+use Rattle.text.proofs.Options.{bind_some, when-some, and_both, is_some, is_none}
+use Rattle.text.proofs.Digits.{value-next, value-stop, value-end}
 
 -- ---- how large a value is
 

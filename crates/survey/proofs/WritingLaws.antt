@@ -9,8 +9,9 @@ use Rattle.std.proofs.Math.Seq.{length-take-le}
 use Rattle.std.proofs.lemmas.List.{take-append-le, drop-append-le}
 use Rattle.method.specs.Outcome.{Outcome}
 use Rattle.text.specs.Text.{Bytes, LF, space, digits, shown, ending, line_text, leaves, put_at}
-use Rattle.text.specs.Writing.{Wrote, wrote}
-use Rattle.text.specs.Digits.{length_digits}
+use Rattle.text.specs.Writing.{Wrote}
+use Rattle.text.proofs.WritingLaws.{wrote}
+use Rattle.text.proofs.Digits.{length_digits}
 use Rattle.survey.specs.Print.{hex, row_text, rows_text, refused_word, report_text, refused_text, outcome_text, malformed_text}
 
 pub length-hex : (x : Float) → length (hex x) ≡ 16

@@ -8,13 +8,13 @@ use Rattle.std.specs.Float.{binary64}
 use Rattle.std.specs.Float.Ieee.{of_bits}
 use Rattle.std.proofs.Math.Seq.{sets}
 use Rattle.text.specs.Text.{Bytes, LF, space, ◌>>=◌, cut, pattern, found}
-use Rattle.text.specs.Options.{bind_some}
-use Rattle.text.specs.Digits.{sets_append}
-use Rattle.text.specs.Cuts.{cut-some, cut-none}
+use Rattle.text.proofs.Options.{bind_some}
+use Rattle.text.proofs.Digits.{sets_append}
+use Rattle.text.proofs.Cuts.{cut-some, cut-none}
 use Rattle.survey.specs.Form.{row_line, Got, malformed, got, line, and_then, body}
 use Rattle.survey.specs.Code.{row_stored, body_into, body_stored}
-use Rattle.survey.specs.Found.{short-some, short_none}
-use Rattle.survey.specs.LineSize.{row_short, line-size}
+use Rattle.survey.proofs.Found.{short-some, short_none}
+use Rattle.survey.proofs.LineSize.{row_short, line-size}
 
 -- ---- a line by its rule
 

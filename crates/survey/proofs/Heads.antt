@@ -7,13 +7,13 @@ use Rattle.std.proofs.Math.ListN.{take}
 use Rattle.survey.specs.declared.reading.Entry.{Entry}
 use Rattle.text.specs.Text.{Bytes, LF, number, found}
 use Rattle.text.specs.Code.{or_zero}
-use Rattle.text.specs.Numerals.{number-pos, number-range}
+use Rattle.text.proofs.NumeralLaws.{number-pos, number-range}
 use Rattle.survey.specs.Form.{entry_line, count_line, malformed, got, and_then, contents, head}
 use Rattle.survey.specs.declared.reading.Head.{Head}
 use Rattle.survey.specs.Code.{or_none, headed}
-use Rattle.survey.specs.Found.{entry_range}
-use Rattle.survey.specs.LineSize.{count-size, entry_size}
-use Rattle.survey.specs.Bodies.{line-none, line-bad, line-got}
+use Rattle.survey.proofs.Found.{entry_range}
+use Rattle.survey.proofs.LineSize.{count-size, entry_size}
+use Rattle.survey.proofs.Bodies.{line-none, line-bad, line-got}
 
 -- the code's entry of zeros says that there is none
 pub entry_known : (es : List Entry) (l : Bytes) (x : Entry) → x ≡ or_none (entry_line es l)

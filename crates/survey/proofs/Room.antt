@@ -11,19 +11,19 @@ use Rattle.method.specs.Outcome.{Outcome, plain_outcome}
 use Rattle.method.specs.Defaults.{defaults}
 use Rattle.survey.specs.declared.reading.Entry.{Entry}
 use Rattle.text.specs.Text.{Bytes, LF, ◌>>=◌, cut, shown, ending, line_text}
-use Rattle.text.specs.Numerals.{number-range}
-use Rattle.text.specs.Writing.{length-shown, places-most}
+use Rattle.text.proofs.NumeralLaws.{number-range}
+use Rattle.text.proofs.WritingLaws.{length-shown, places-most}
 use Rattle.survey.specs.Sizes.{room}
 use Rattle.survey.specs.Form.{count_line, entry_line, row_line, short, Got, malformed, got, line, and_then, contents, head, body, bodies, reading}
 use Rattle.survey.specs.Print.{rows_text, refused_word, word_text, report_text, refused_text, outcome_text, survey_text, surveys_text, malformed_text, printed, split}
 use Rattle.survey.specs.Code.{Small, survey_of}
 use Rattle.survey.specs.Found.{InRange}
-use Rattle.survey.specs.Writing.{malformed_is, length-rows, outcome-accepted, outcome-refused}
-use Rattle.survey.specs.Verdict.{small, same_size}
-use Rattle.survey.specs.Surveys.{table}
-use Rattle.survey.specs.Whole.{All, contents-all, survey_length, printed-first, area}
-use Rattle.survey.specs.LineSize.{line-size}
-use Rattle.survey.specs.TextSize.{contents-size}
+use Rattle.survey.proofs.WritingLaws.{malformed_is, length-rows, outcome-accepted, outcome-refused}
+use Rattle.survey.proofs.Verdict.{small, same_size}
+use Rattle.survey.proofs.Surveys.{table}
+use Rattle.survey.proofs.Whole.{All, contents-all, survey_length, printed-first, area}
+use Rattle.survey.proofs.LineSize.{line-size}
+use Rattle.survey.proofs.TextSize.{contents-size}
 
 -- ---- lines of short fields
 

@@ -4,10 +4,10 @@ use Rattle.std.proofs.Common.{sym, ap, ◌∙◌, arith, pow-suc, div-add-mod', 
 use Rattle.std.proofs.Math.Option.{some}
 use Rattle.std.proofs.Math.Nat.{pow-zero}
 use Rattle.text.specs.Text.{Bytes, ◌>>=◌, when, worth, value, number, pattern, digit, digits, places_by, shown}
-use Rattle.text.specs.Cuts.{Free, free_append}
-use Rattle.text.specs.Digits.{worth-decimal, worth-letter, digit_low, digit-high, length_digits}
-use Rattle.text.specs.Numerals.{pattern-is, number-value}
-use Rattle.text.specs.Writing.{places-next, places-end}
+use Rattle.text.proofs.Cuts.{Free, free_append}
+use Rattle.text.proofs.Digits.{worth-decimal, worth-letter, digit_low, digit-high, length_digits}
+use Rattle.text.proofs.NumeralLaws.{pattern-is, number-value}
+use Rattle.text.proofs.WritingLaws.{places-next, places-end}
 
 -- ---- digits
 

@@ -4,12 +4,12 @@ use Rattle.std.proofs.Common.{ap, arith, suc-mul, zero-mul, length-append}
 use Rattle.std.proofs.Math.Option.{Option, none, some}
 use Rattle.survey.specs.declared.reading.Entry.{Entry}
 use Rattle.text.specs.Text.{Bytes, LF, ◌>>=◌, cut}
-use Rattle.text.specs.Numerals.{number-range}
+use Rattle.text.proofs.NumeralLaws.{number-range}
 use Rattle.survey.specs.Sizes.{longest}
 use Rattle.survey.specs.Form.{count_line, entry_line, row_line, short, Got, malformed, got, line, and_then, contents, head, body, bodies, reading}
-use Rattle.survey.specs.Found.{then_got}
-use Rattle.survey.specs.LineSize.{count-size, entry_size, row_size, line-size}
-use Rattle.survey.specs.Whole.{All, contents-all, area}
+use Rattle.survey.proofs.Found.{then_got}
+use Rattle.survey.proofs.LineSize.{count-size, entry_size, row_size, line-size}
+use Rattle.survey.proofs.Whole.{All, contents-all, area}
 
 -- ---- line by line
 

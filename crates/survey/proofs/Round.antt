@@ -9,12 +9,13 @@ use Rattle.std.proofs.lemmas.List.{length-map}
 use Rattle.text.specs.Text.{Bytes, LF, space, ◌>>=◌, when, pattern, digit, digits, shown, ending, line_text}
 use Rattle.survey.specs.declared.reading.Entry.{Entry}
 use Rattle.survey.specs.Form.{count_line, row_line, entry_line, named, got, line, and_then, contents, body, bodies, head, reading, Survey}
-use Rattle.survey.specs.Found.{InRange, short-some}
-use Rattle.survey.specs.LineSize.{row_short, entry_size, count-size}
-use Rattle.survey.specs.Whole.{All}
+use Rattle.survey.specs.Found.{InRange}
+use Rattle.survey.proofs.Found.{short-some}
+use Rattle.survey.proofs.LineSize.{row_short, entry_size, count-size}
+use Rattle.survey.proofs.Whole.{All}
 use Rattle.survey.specs.Print.{hex, row_text, rows_text}
-use Rattle.text.specs.Cuts.{Free, cut-free, free_append}
-use Rattle.text.specs.Round.{pattern-round, digits-free, number-round, shown-free}
+use Rattle.text.proofs.Cuts.{Free, cut-free, free_append}
+use Rattle.text.proofs.Round.{pattern-round, digits-free, number-round, shown-free}
 
 -- ---- a reading's 16 digits
 

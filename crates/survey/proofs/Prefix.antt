@@ -6,13 +6,13 @@ use Rattle.std.proofs.Math.Option.{Option, none, some}
 use Rattle.std.proofs.lemmas.Bool.{lt-leb}
 use Rattle.survey.specs.declared.reading.Entry.{Entry}
 use Rattle.text.specs.Text.{Bytes, LF, ◌>>=◌, when, cut}
-use Rattle.text.specs.Numerals.{number-range}
+use Rattle.text.proofs.NumeralLaws.{number-range}
 use Rattle.survey.specs.Sizes.{longest, enough}
 use Rattle.survey.specs.Form.{count_line, entry_line, row_line, most_line, short, Got, malformed, got, line, and_then, contents, head, body, bodies, reading}
 use Rattle.survey.specs.Print.{printed, split}
-use Rattle.survey.specs.LineSize.{line-size, count-size}
-use Rattle.survey.specs.Whole.{All, contents-all, area}
-use Rattle.survey.specs.TextSize.{contents-size, body-size}
+use Rattle.survey.proofs.LineSize.{line-size, count-size}
+use Rattle.survey.proofs.Whole.{All, contents-all, area}
+use Rattle.survey.proofs.TextSize.{contents-size, body-size}
 
 -- what was read, with more after it
 unfoldable pub further : {A : Type 0} → Bytes → Got A → Got A

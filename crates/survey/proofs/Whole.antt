@@ -15,11 +15,12 @@ use Rattle.text.specs.Text.{Bytes}
 use Rattle.survey.specs.Form.{entry_line, row_line, Got, malformed, got, line, and_then, contents, count_line, head, body, bodies, reading, Survey, Reading}
 use Rattle.survey.specs.Print.{survey_text, surveys_text, malformed_text, printed, split}
 use Rattle.survey.specs.Code.{placed, body_stored, headed, survey_of}
-use Rattle.survey.specs.Lines.{zeros}
-use Rattle.survey.specs.LineSize.{line-size}
-use Rattle.survey.specs.Bodies.{row_length}
-use Rattle.survey.specs.Found.{InRange, entry_range, then_got}
-use Rattle.survey.specs.Heads.{headed-got}
+use Rattle.survey.proofs.Lines.{zeros}
+use Rattle.survey.proofs.LineSize.{line-size}
+use Rattle.survey.proofs.Bodies.{row_length}
+use Rattle.survey.specs.Found.{InRange}
+use Rattle.survey.proofs.Found.{entry_range, then_got}
+use Rattle.survey.proofs.Heads.{headed-got}
 
 -- ---- names
 

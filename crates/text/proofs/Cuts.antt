@@ -11,7 +11,7 @@ use Rattle.std.proofs.Math.ListN.{length, drop, length-drop}
 use Rattle.std.proofs.Math.Seq.{drop-drop, drop-cons}
 use Rattle.text.specs.Text.{Bytes, ◌>>=◌, cut, found, index_of, index_after}
 use Rattle.text.specs.Code.{cut_at}
-use Rattle.text.specs.Options.{bind_some}
+use Rattle.text.proofs.Options.{bind_some}
 
 -- ---- where the first `stop` stands
 

@@ -15,8 +15,8 @@ use Rattle.text.specs.Text.{Bytes, space, ◌>>=◌, when, cut, number, pattern,
 use Rattle.text.specs.Code.{or_zero}
 use Rattle.survey.specs.Form.{named, entry_line, row_line}
 use Rattle.survey.specs.Code.{or_none, row_into, row_stored}
-use Rattle.text.specs.Cuts.{cut-none, cut-some, rest_of}
-use Rattle.text.specs.Numerals.{number-pos}
+use Rattle.text.proofs.Cuts.{cut-none, cut-some, rest_of}
+use Rattle.text.proofs.NumeralLaws.{number-pos}
 
 -- ---- an id among the first k entries
 abbrev pub zeros : Entry

@@ -5,11 +5,11 @@ use Rattle.std.proofs.Common.{ap, ◌∙◌, arith}
 use Rattle.std.proofs.Math.Option.{Option, none, some}
 use Rattle.survey.specs.declared.reading.Entry.{Entry}
 use Rattle.text.specs.Text.{Bytes, LF, space, ◌>>=◌, cut, number, pattern}
-use Rattle.text.specs.Options.{bind_some}
+use Rattle.text.proofs.Options.{bind_some}
 use Rattle.survey.specs.Form.{count_line, entry_line, row_line, short, malformed, got, line}
-use Rattle.survey.specs.Found.{short-was}
-use Rattle.text.specs.Cuts.{cut-size}
-use Rattle.text.specs.Numerals.{number_size, pattern-size}
+use Rattle.survey.proofs.Found.{short-was}
+use Rattle.text.proofs.Cuts.{cut-size}
+use Rattle.text.proofs.NumeralLaws.{number_size, pattern-size}
 
 pub count-size : (l : Bytes) (k : ℕ) → count_line l ≡ some k → length l ≤ 1
 unfolding count_line
