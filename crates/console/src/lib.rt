@@ -4,7 +4,7 @@
 
 ghost use Rattle.console.specs.Padded.{zero_padded};
 ghost use Rattle.std.specs.Fmt.{digits};
-ghost use Rattle.std.specs.Prelude.{◌≡◌, ◌<◌, ◌≤◌, min, false, length, take, IfOk, OnOk, decimal};
+ghost use Rattle.std.specs.Prelude.{◌<◌, min, false, length, take, IfOk, OnOk, decimal};
 ghost use Rattle.std.specs.Io.{ReadsAtMost};
 ghost use Rattle.std.specs.Io.KnownBytes.{Appends, Consumes, IsAtEnd};
 
