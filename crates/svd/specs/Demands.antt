@@ -10,9 +10,11 @@ use Rattle.std.proofs.Common.{sym, ap, ◌∙◌, arith}
 use Rattle.std.specs.Float.{binary64}
 use Rattle.std.specs.Float.Ieee.{lt}
 use Rattle.std.specs.Float.Ieee.Scale.{finite}
-use Rattle.float.specs.Root.{AnF64, RootIs, root_is}
+use Rattle.float.specs.Root.{AnF64, RootIs}
+use Rattle.float.proofs.Root.{root_is}
 use Rattle.float.specs.Values.{line_in, start_in}
-use Rattle.float.specs.Page.{PageShows, page-shows}
+use Rattle.float.specs.Page.{PageShows}
+use Rattle.float.proofs.Page.{page-shows}
 use Rattle.float.specs.declared.paper.Line.{Line}
 use Rattle.float.specs.declared.paper.Start.{Start}
 use Rattle.method.specs.Floats.{plus_zero}

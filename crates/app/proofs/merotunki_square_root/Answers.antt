@@ -1,5 +1,5 @@
 -- `merotunki_square_root` meets its contract: it is the root beneath, and its argument is an f64. Assumes nothing.
-use Rattle.float.specs.Root.{root_is}
+use Rattle.float.proofs.Root.{root_is}
 use Rattle.app.proofs.merotunki_square_root.Goals as goal
 
 pub returns : goal.returns
