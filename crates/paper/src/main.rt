@@ -98,22 +98,21 @@ fn print_lines<W: Write>(out: &mut W, text: &[u8]) -> bool {
     true
 }
 
-// Says on standard error what failed.
-fn fail<W: Write>(err: &mut W, words: &[u8]) -> io::Result<()> {
-    err.write_all(words)
+// Says on standard error what failed. Where that cannot be written either, nobody is left to be told.
+fn fail<W: Write>(err: &mut W, words: &[u8]) {
+    let _ = err.write_all(words);
 }
 
 fn main(rt: HostRuntime) -> io::Result<()> {
     let mut text = room();
     let n = read_full(&mut rt.stdin(), &mut text)?;
     if n >= text.len() {
-        return fail(
+        fail(
             &mut rt.stderr(),
             b"paper: the input is too long: at most 65535 bytes are read\n",
         );
-    }
-    if !print_lines(&mut rt.stdout(), &text[0..n]) {
-        return fail(
+    } else if !print_lines(&mut rt.stdout(), &text[0..n]) {
+        fail(
             &mut rt.stderr(),
             b"paper: the output could not be written\n",
         );

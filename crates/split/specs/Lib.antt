@@ -1,0 +1,2 @@
+-- What the contracts of `split` cite.
+pub mod Reading
