@@ -2,7 +2,7 @@
 # All that is said here goes to standard error, so that standard output is the script's own.
 
 # The kit that the proofs were last checked with. Another one may do; `rt version` says which is at hand.
-KIT="rattle-kit-5b-plain (logic 097e4c862dff5811)"
+KIT="rattle-kit-13f logic dac8208d650f15bf"
 
 say() { echo "$*" >&2; }
 fail() { say "${0##*/}: $*"; exit 1; }
@@ -10,30 +10,36 @@ fail() { say "${0##*/}: $*"; exit 1; }
 # need COMMAND PACKAGE: ends with a sentence where the command is not there
 need() { command -v "$1" >/dev/null || fail "the command \`$1\` is missing. On Debian: apt-get install $2"; }
 
-# sets `kit`, the kit's folder, and `tools`, its compiler's for this machine
+# sets `kit`, the kit's folder, and `tools`, that of its compiler
 find_kit() {
     command -v rt >/dev/null || fail "the Rattle kit is missing: there is no command \`rt\`. Put the folder bin of" \
         "$KIT on the path: export PATH=KIT/bin:\$PATH"
     kit=$(cd "$(dirname "$(readlink -f "$(command -v rt)")")/.." && pwd -P)
-    tools=$kit/on/$(uname -m)/toolchain
-    [ -x "$tools/bin/clang" ] || fail "the kit at $kit has no compiler for this machine, $(uname -m)"
+    tools=$kit/toolchain
+    [ -x "$tools/bin/clang" ] || fail "the kit at $kit has no compiler"
 }
 
-# kept NAME COMMAND...: runs the command with all that it says kept in target/log/NAME. Shows each crate as it is proved,
-# and every 20 seconds that it is still at work. Where it fails its last lines are shown and the file is named.
+# kept NAME CRATE COMMAND...: runs the command in the crate's folder with all that it says kept in target/log/NAME. Shows
+# each crate as it is proved, and every 20 seconds that it is still at work. Where it fails its last lines are shown and the
+# file is named.
 kept() {
-    local log=target/log/$1 ticker
-    shift
+    local log=target/log/$1 crate=$2 ticker
+    shift 2
     mkdir -p target/log
     ticking &
     ticker=$!
-    { "$@" 2>&1 </dev/null || echo "status $?"; } | tee "$log" | { grep --line-buffered '^rt: .* proved ([0-9]' || true; } >&2
+    { (cd "crates/$crate" && "$@") 2>&1 </dev/null || echo "status $?"; } | tee "$log" | { proved || true; } >&2
     kill "$ticker"
     wait "$ticker" || true
     if [[ $(tail -n 1 "$log") == "status "* ]]; then
         tail -n 20 "$log" >&2
-        fail "failed: $*. All that it said is in $log"
+        fail "failed in crates/$crate: $*. All that it said is in $log"
     fi
+}
+# of what rt says, the name of each crate that was proved, and how many functions it has
+proved() {
+    sed -un -e '/^crate \([^:]*\): .*/ { s//\1/; h }' \
+        -e '/^logic=proved functions=\([0-9]*\) .*/ { s//proved (\1 functions)/; G; s/\(.*\)\n\(.*\)/\2: \1/; p }'
 }
 ticking() {
     local nap seconds
@@ -47,9 +53,6 @@ ticking() {
     done
 }
 
-# by_emulator PROGRAM: runs an x86-64 program of the kit's build, on another processor under the kit's emulator
-by_emulator() {
-    local emulator=$tools/bin/qemu-x86_64
-    [ -x "$emulator" ] || emulator=
-    $emulator "$tools/lib/ld-linux-x86-64.so.2" --library-path "$tools/lib" "$@"
-}
+# built NAME: proves and builds the program NAME where that is not done yet. It stays as crates/NAME/out/NAME. `rt run`, which
+# makes it, also runs it, here with nothing to read.
+built() { kept "$1" "$1" rt run; }
