@@ -56,7 +56,7 @@ fn rotations() {
     assert!(rotation(1.0, -1.0).2 < 0.0);
 }
 
-/// The rotations that the definitions are held to in crates/method/specs/Cases.antt (`slips`).
+/// The rotations that the definitions are held to in crates/method/proofs/Cases.antt (`slips`).
 #[test]
 fn rotations_of_the_slips() {
     let shown = |a: f64, b: f64| {
