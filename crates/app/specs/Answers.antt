@@ -129,7 +129,7 @@ module _ (rows cols k : ℕ) where
 pub identity-one :
     (n : ℕ) (a₀ : List Float) (r r' : ℕ) (a a' : List Float) →
     filled r a ≡ fill_outcome n a₀ → filled r' a' ≡ fill_outcome n a₀ → (r ≡ r') × (a ≡ a')
-identity-one = Factors.fill_one
+identity-one = Factors.filled_one
 
 -- `merotunki_row`
 pub row_one :

@@ -2,6 +2,7 @@
 use Rattle.std.specs.Prelude.{List, ℕ, Float}
 use Rattle.method.specs.Work.{Work}
 use Rattle.method.specs.Settings.{Settings}
+use Rattle.method.specs.Checks.{refusal, nowhere}
 use Rattle.method.specs.Report as Report
 use Rattle.method.specs.Outcome.{Outcome}
 use Rattle.method.specs.Ordered.{Ordered}
@@ -25,6 +26,10 @@ answer_of r =
       range = r.tally.range;
       rotations = r.tally.rotations;
     }
+
+-- the report of a run with the number of what it was refused by after it; 0 where it was not
+abbrev pub numbered : ℕ → Report.Report → Report.Report
+numbered n r = record { refusal = refusal n nowhere; word = r.word; tally = r.tally }
 
 -- an answer, and every list that was lent, as the call leaves it
 pub record Answered : Type 0 where

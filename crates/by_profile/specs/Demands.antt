@@ -5,7 +5,7 @@
 -- each profile allows. They lean on the definition: `profiles`, `settings_by`, `profile_outcome`, `profile_ordered` (method's
 -- Profiles), on the lists `meanings_by`, `ordered_meanings_by` (Profiles.Numbers), on `SettingsNearest` (Profiles.Nearest)
 -- and on `passes_most`, `rotations_most` (Profiles.Table). Assumes nothing.
-use Rattle.std.specs.Prelude.{◌≡◌, refl, ◌↔◌, Bool, true, false, List, [], ◌++◌, ℕ, ◌+◌, ◌-◌, ◌*◌, ◌≤◌, ◌<◌, Float}
+use Rattle.std.specs.Prelude.{Result, Ok, ◌≡◌, refl, ◌↔◌, Bool, true, false, List, [], ◌++◌, ℕ, ◌+◌, ◌-◌, ◌*◌, ◌≤◌, ◌<◌, Float}
 use Rattle.std.proofs.Common.{sym, ap, ◌∙◌, le_trans, mul-le-mul_left, arith}
 use Rattle.std.specs.Float.{binary64}
 use Rattle.method.specs.Work.{Work, work}
@@ -21,23 +21,24 @@ use Rattle.method.specs.Report.{refused}
 use Rattle.method.specs.Outcome.{Outcome, outcome_of, card, accepted}
 use Rattle.method.specs.Ordered.{ordered_of, refused_after}
 use Rattle.method.proofs.Ordered.Numbers.{after_meanings}
-use Rattle.method.specs.Profiles.{no_profile, profile_at, Picked, picked, settings_in, settings_by, profile_outcome}
+use Rattle.method.specs.Profiles.{no_profile, profile_at, picked, settings_in, settings_by, profile_outcome}
 use Rattle.method.specs.Profiles.{profile_plain, profile_full, profile_ordered, refusal_by, ordered_checks_by, ordered_refusal_by}
 use Rattle.method.specs.Profiles.Nearest.{SettingsNearest}
 use Rattle.method.proofs.Profiles.Nearest.{settings_nearest}
 use Rattle.method.specs.Profiles.Table.{passes_most, rotations_most}
-use Rattle.method.proofs.Profiles.Table.{there, picked-there, settings_there, profile-passes}
+use Rattle.method.proofs.Profiles.Table.{there, settings_there, profile-passes}
 use Rattle.method.proofs.Profiles.Ways as Ways
 use Rattle.method.specs.Profiles.Numbers.{meanings_by, ordered_meanings_by}
 use Rattle.method.proofs.Profiles.Numbers.{refusal-told, numbers-by, place-by}
 use Rattle.method.proofs.Profiles.Numbers.{ordered-numbers_by, ordered-place_by}
 use Rattle.checks.specs.declared.settings.Settings.{Settings}
-use Rattle.checks.specs.Values.{settings_of, place_in, refusal_in}
+use Rattle.checks.specs.Values.{settings_of}
 use Rattle.checks.specs.Answers.{from_settings}
-use Rattle.profiles.specs.declared.Picked as Profiles
+use Rattle.checks.specs.declared.refusal.Refusal.{Refusal as Refused}
 use Rattle.profiles.specs.Values.{picked_in}
-use Rattle.svd.specs.declared.report.Report.{Report}
-use Rattle.svd.specs.Values.{report_of}
+use Rattle.profiles.specs.Answers.{picks}
+use Rattle.svd.specs.Values.{Answer, report_of}
+use Rattle.order.specs.Values.{OrderedAnswer, ordered_report}
 use Rattle.svd.specs.Told.{reports_of, lists_of}
 use Rattle.svd.specs.Demands.{Allowed, demand_3}
 use Rattle.order.specs.Told as Told
@@ -47,15 +48,15 @@ use Rattle.order.specs.Demands.{OrderedAllowed, refuses}
 
 -- On rows, cols, profile k and the lists w₀ a call may report r and leave the lists w. With U and V kept (`kept` true) it
 -- is `profile_full_svd_decomposition`; without, it is `profile_svd_decomposition`, whose lists u and v are empty.
-pub record AllowedBy (kept : Bool) (rows cols k : ℕ) (w₀ : Work) (r : Report) (w : Work) : Type 0 where
+pub record AllowedBy (kept : Bool) (rows cols k : ℕ) (w₀ : Work) (r : Answer) (w : Work) : Type 0 where
   pub promise : outcome_of (report_of r) w ≡ profile_outcome binary64 kept rows cols k w₀
 
 -- With the list of values l₀ as well, `profile_ordered_svd_decomposition` may report r and leave w and l.
-pub record OrderedAllowedBy (rows cols k : ℕ) (w₀ : Work) (l₀ : List Float) (r : Report) (w : Work) (l : List Float) :
+pub record OrderedAllowedBy (rows cols k : ℕ) (w₀ : Work) (l₀ : List Float) (r : OrderedAnswer) (w : Work) (l : List Float) :
     Type 0 where
-  pub promise : ordered_of (outcome_of (report_of r) w) l ≡ profile_ordered binary64 rows cols k w₀ l₀
+  pub promise : ordered_of (outcome_of (ordered_report r) w) l ≡ profile_ordered binary64 rows cols k w₀ l₀
 
-module _ (rows cols k : ℕ) (r : Report) where
+module _ (rows cols k : ℕ) (r : Answer) where
   -- this is the promise of the accumulating call, as it stands on it
   pub full_allowed_by :
       (b₀ u₀ v₀ b u v : List Float) →
@@ -76,14 +77,10 @@ module _ (rows cols k : ℕ) (r : Report) where
 abbrev pub settings_for : ℕ → Settings
 settings_for k = from_settings (settings_by binary64 k)
 
--- they are those that `pick` answers, with 0, for a number from 1 to 4
+-- they are those that `pick` answers for a number from 1 to 4
 pub picks_profile :
-    {k : ℕ} {p : Profiles.Picked} → picked_in p ≡ picked binary64 k → 1 ≤ k → k ≤ 4 →
-    (p.number ≡ 0) × (p.settings ≡ settings_for k)
-picks_profile {k} {p} e low high = (
-  ap (λ (x : Picked). x.number) (e ∙ picked-there binary64 k ((there k).1 (low, high))),
-  ap (λ (x : Picked). from_settings x.settings) e,
-)
+    {k : ℕ} {p : Result Settings Refused} → picked_in p ≡ picked binary64 k → 1 ≤ k → k ≤ 4 → p ≡ Ok (settings_for k)
+picks_profile {k} {p} e low high = picks k p ((there k).1 (low, high)) e
 
 -- The settings of profile k: limit and credit are the table's; tolerance, absolute and floor are the doubles nearest to
 -- its decimal numbers; and no call refuses them, by 6 or by 7.
@@ -108,7 +105,7 @@ profiled k low high =
       bounds_fit = none.1.0;
     }
 
-module _ {kept : Bool} {rows cols k : ℕ} {w₀ : Work} {r : Report} {w : Work} (low : 1 ≤ k) (high : k ≤ 4) where
+module _ {kept : Bool} {rows cols k : ℕ} {w₀ : Work} {r : Answer} {w : Work} (low : 1 ≤ k) (high : k ≤ 4) where
   -- by one of 1 to 4 it may answer just what the call with the profile's settings may, on every input
   pub as_settings : AllowedBy kept rows cols k w₀ r w ↔ Allowed kept rows cols (settings_for k) w₀ r w
   as_settings =
@@ -119,7 +116,7 @@ module _ {kept : Bool} {rows cols k : ℕ} {w₀ : Work} {r : Report} {w : Work}
 
 -- the ordered call likewise
 pub ordered-as_settings :
-    {rows cols k : ℕ} {w₀ : Work} {l₀ : List Float} {r : Report} {w : Work} {l : List Float} → 1 ≤ k → k ≤ 4 →
+    {rows cols k : ℕ} {w₀ : Work} {l₀ : List Float} {r : OrderedAnswer} {w : Work} {l : List Float} → 1 ≤ k → k ≤ 4 →
     OrderedAllowedBy rows cols k w₀ l₀ r w l ↔ OrderedAllowed rows cols (settings_for k) w₀ l₀ r w l
 ordered-as_settings {rows} {cols} {k} {w₀} {l₀} low high =
     let q = Ways.ordered-as_settings binary64 rows cols k w₀ l₀ ((there k).1 (low, high)) in (
@@ -129,22 +126,22 @@ ordered-as_settings {rows} {cols} {k} {w₀} {l₀} low high =
 
 -- ---- what is unfit is refused, by number, in a fixed order, and nothing else is
 
-module _ (kept : Bool) (rows cols k : ℕ) (w₀ : Work) (r : Report) (w : Work) where
+module _ (kept : Bool) (rows cols k : ℕ) (w₀ : Work) (r : Answer) (w : Work) where
   pub record RefusesBy : Type 0 where
     -- the number is that of the first condition that holds (1, 2, 3, 4, 5, 10, 8); 0 is answered exactly when none holds
-    pub number : (j : ℕ) → (r.refusal.number ≡ j) ↔ First j (meanings_by kept rows cols k w₀)
+    pub number : (j : ℕ) → ((report_of r).refusal.number ≡ j) ↔ First j (meanings_by kept rows cols k w₀)
     -- so only a number from 1 to 4 is accepted
-    pub profile : r.refusal.number ≡ 0 → (1 ≤ k) × (k ≤ 4)
+    pub profile : (report_of r).refusal.number ≡ 0 → (1 ≤ k) × (k ≤ 4)
     -- with 8 go the row and the column of the first reading that is not finite, and how many are not; with every other
     -- number three zeros; so the count is 0 exactly when the number is not 8
-    pub bad_reading : r.refusal.number ≡ 8 → FirstBad cols rows cols w₀.matrix (place_in r.refusal.place)
-    pub no_place : ¬ (r.refusal.number ≡ 8) → place_in r.refusal.place ≡ nowhere
-    pub none-bad : (r.refusal.place.bad ≡ 0) ↔ (¬ (r.refusal.number ≡ 8))
+    pub bad_reading : (report_of r).refusal.number ≡ 8 → FirstBad cols rows cols w₀.matrix ((report_of r).refusal.place)
+    pub no_place : ¬ ((report_of r).refusal.number ≡ 8) → (report_of r).refusal.place ≡ nowhere
+    pub none-bad : ((report_of r).refusal.place.bad ≡ 0) ↔ (¬ ((report_of r).refusal.number ≡ 8))
     -- a refused call reports that alone, and writes nothing
-    pub alone : ¬ (r.refusal.number ≡ 0) → report_of r ≡ refused (refusal_in r.refusal)
-    pub untouched : ¬ (r.refusal.number ≡ 0) → w ≡ w₀
+    pub alone : ¬ ((report_of r).refusal.number ≡ 0) → report_of r ≡ refused (report_of r).refusal
+    pub untouched : ¬ ((report_of r).refusal.number ≡ 0) → w ≡ w₀
 
-module _ (rows cols k : ℕ) (w₀ : Work) (l₀ : List Float) (r : Report) (w : Work) (l : List Float) where
+module _ (rows cols k : ℕ) (w₀ : Work) (l₀ : List Float) (r : OrderedAnswer) (w : Work) (l : List Float) where
   -- the accumulating run with the profile's settings
   abbrev pub ran_by : Outcome
   ran_by = accepted binary64 true rows cols (settings_by binary64 k) w₀
@@ -153,21 +150,21 @@ module _ (rows cols k : ℕ) (w₀ : Work) (l₀ : List Float) (r : Report) (w :
     -- before the run 1, 2, 3, 4, 5, 11, 10, 8, and then after it 12, 13
     pub number :
         (j : ℕ) →
-        (r.refusal.number ≡ j)
+        ((ordered_report r).refusal.number ≡ j)
         ↔ First j
         (ordered_meanings_by rows cols k w₀ l₀ ++ after_meanings rows cols (settings_by binary64 k) w₀ l₀ binary64)
-    pub profile : (r.refusal.number ≡ 0) → (1 ≤ k) × (k ≤ 4)
-    pub bad_reading : r.refusal.number ≡ 8 → FirstBad cols rows cols w₀.matrix (place_in r.refusal.place)
-    pub no_place : ¬ (r.refusal.number ≡ 8) → place_in r.refusal.place ≡ nowhere
-    pub none-bad : (r.refusal.place.bad ≡ 0) ↔ (¬ (r.refusal.number ≡ 8))
+    pub profile : ((ordered_report r).refusal.number ≡ 0) → (1 ≤ k) × (k ≤ 4)
+    pub bad_reading : (ordered_report r).refusal.number ≡ 8 → FirstBad cols rows cols w₀.matrix ((ordered_report r).refusal.place)
+    pub no_place : ¬ ((ordered_report r).refusal.number ≡ 8) → (ordered_report r).refusal.place ≡ nowhere
+    pub none-bad : ((ordered_report r).refusal.place.bad ≡ 0) ↔ (¬ ((ordered_report r).refusal.number ≡ 8))
     -- a call refused before the run reports that alone, and writes nothing
-    pub alone : ¬ (r.refusal.number ≡ 0) → r.refusal.number < 12 → report_of r ≡ refused (refusal_in r.refusal)
-    pub untouched : ¬ (r.refusal.number ≡ 0) → r.refusal.number < 12 → (w ≡ w₀) × (l ≡ l₀)
+    pub alone : ¬ ((ordered_report r).refusal.number ≡ 0) → (ordered_report r).refusal.number < 12 → ordered_report r ≡ refused (ordered_report r).refusal
+    pub untouched : ¬ ((ordered_report r).refusal.number ≡ 0) → (ordered_report r).refusal.number < 12 → (w ≡ w₀) × (l ≡ l₀)
     -- a call refused after it, by 12 or 13, has the run's report but for the number, leaves matrix, U and V as the run
     -- has them, and the list of values as it was
     pub after :
-        12 ≤ r.refusal.number →
-        (report_of r ≡ refused_after (refusal_in r.refusal) ran_by.report) × (w ≡ ran_by.held) × (l ≡ l₀)
+        12 ≤ (ordered_report r).refusal.number →
+        (ordered_report r ≡ refused_after (ordered_report r).refusal ran_by.report) × (w ≡ ran_by.held) × (l ≡ l₀)
 
 -- ---- they hold of every answer
 
@@ -176,15 +173,15 @@ either_way : (k : ℕ) → (b : Bool) → no_profile k ≡ b → {A : Type 0} �
 either_way k true e f g = g e
 either_way k false e f g = let n = (there k).0 e in f n.0 n.1
 
-module _ {kept : Bool} {rows cols k : ℕ} {w₀ : Work} {r : Report} {w : Work} where
+module _ {kept : Bool} {rows cols k : ℕ} {w₀ : Work} {r : Answer} {w : Work} where
   pub refuses-by : AllowedBy kept rows cols k w₀ r w → RefusesBy kept rows cols k w₀ r w
   refuses-by a =
-      let told : refusal_in r.refusal ≡ refusal_by kept rows cols k w₀ =
+      let told : (report_of r).refusal ≡ refusal_by kept rows cols k w₀ =
       ap (λ (x : Report.Report). x.refusal) (reports_of a.promise) ∙ refusal-told binary64 kept rows cols k w₀ in
-      let number : r.refusal.number ≡ (refusal_by kept rows cols k w₀).number = ap (λ (x : Refusal). x.number) told in
+      let number : (report_of r).refusal.number ≡ (refusal_by kept rows cols k w₀).number = ap (λ (x : Refusal). x.number) told in
       let at = rw (sym told) at (place-by binary64 kept rows cols k w₀) in
       let out :
-      ¬ (r.refusal.number ≡ 0) → outcome_of (report_of r) w ≡ outcome_of (refused (refusal_by kept rows cols k w₀)) w₀ =
+      ¬ ((report_of r).refusal.number ≡ 0) → outcome_of (report_of r) w ≡ outcome_of (refused (refusal_by kept rows cols k w₀)) w₀ =
       λ h. a.promise ∙ Ways.refused-by binary64 kept rows cols k w₀ (λ z. h (number ∙ z)) in
       record {
         number = λ j. rw number (numbers-by kept rows cols k w₀ j);
@@ -200,24 +197,24 @@ module _ {kept : Bool} {rows cols k : ℕ} {w₀ : Work} {r : Report} {w : Work}
 
   -- passes and rotations of an accepted call: by its profile, and by the smaller of rows and columns
   pub few_by :
-      AllowedBy kept rows cols k w₀ r w → r.refusal.number ≡ 0 →
-      (r.tally.passes ≤ passes_most (card rows cols) (profile_at k))
-      × (r.tally.rotations ≤ rotations_most (card rows cols) (profile_at k))
+      AllowedBy kept rows cols k w₀ r w → (report_of r).refusal.number ≡ 0 →
+      ((report_of r).tally.passes ≤ passes_most (card rows cols) (profile_at k))
+      × ((report_of r).tally.rotations ≤ rotations_most (card rows cols) (profile_at k))
   few_by a e =
       let n = (refuses-by a).profile e in
       let d = demand_3 ((as_settings n.0 n.1).0 a) e in
       let p = profiled k n.0 n.1 in
       let c = card rows cols in
-      let passes : r.tally.passes ≤ passes_most c (profile_at k) = rw (p.limit, p.credit) at d.most in
+      let passes : (report_of r).tally.passes ≤ passes_most c (profile_at k) = rw (p.limit, p.credit) at d.most in
       (passes, le_trans d.turns-few (mul-le-mul_left (2 * (c - 1)) (le_trans (sweeps d.each) passes)))
     where
-      sweeps : r.tally.passes ≡ r.tally.sweeps + r.tally.drops → r.tally.sweeps ≤ r.tally.passes
+      sweeps : (report_of r).tally.passes ≡ (report_of r).tally.sweeps + (report_of r).tally.drops → (report_of r).tally.sweeps ≤ (report_of r).tally.passes
       sweeps g = omega arith
 
-module _ {rows cols k : ℕ} {w₀ : Work} {l₀ : List Float} {r : Report} {w : Work} {l : List Float} where
+module _ {rows cols k : ℕ} {w₀ : Work} {l₀ : List Float} {r : OrderedAnswer} {w : Work} {l : List Float} where
   pub ordered-refuses_by : OrderedAllowedBy rows cols k w₀ l₀ r w l → OrderedRefusesBy rows cols k w₀ l₀ r w l
   ordered-refuses_by a =
-      let told : report_of r ≡ (profile_ordered binary64 rows cols k w₀ l₀).run.report = Told.reports_of a.promise in
+      let told : ordered_report r ≡ (profile_ordered binary64 rows cols k w₀ l₀).run.report = Told.reports_of a.promise in
       let number = ap (λ (x : Report.Report). x.refusal.number) told in
       let at = rw (ap (λ (x : Report.Report). x.refusal) (sym told)) at (ordered-place_by binary64 rows cols k w₀ l₀) in
       record {
@@ -244,13 +241,13 @@ module _ {rows cols k : ℕ} {w₀ : Work} {l₀ : List Float} {r : Report} {w :
     where
       out :
           no_profile k ≡ true →
-          ordered_of (outcome_of (report_of r) w) l
+          ordered_of (outcome_of (ordered_report r) w) l
           ≡ ordered_of (outcome_of (refused (ordered_refusal_by rows cols k w₀ l₀)) w₀) l₀
       out n =
           a.promise
           ∙ Ways.ordered-refused_by binary64 rows cols k w₀ l₀ (Ways.ordered-none_some rows cols k w₀ l₀ n)
 
-      late : no_profile k ≡ true → r.refusal.number ≡ (ordered_refusal_by rows cols k w₀ l₀).number
+      late : no_profile k ≡ true → (ordered_report r).refusal.number ≡ (ordered_refusal_by rows cols k w₀ l₀).number
       late n = ap (λ (x : Report.Report). x.refusal.number) (Told.reports_of (out n))
 
       below : {m n : ℕ} → m ≡ n → n < 12 → 12 ≤ m → ⊥

@@ -1,6 +1,6 @@
 -- For the proofs of the calls: what each way out answers, over plain values. Assumes nothing.
-use Rattle.std.specs.Prelude.{◌≡◌, refl, Bool, true, false, List, ℕ, Float}
-use Rattle.std.proofs.Common.{sym, ap, ◌∙◌, arith}
+use Rattle.std.specs.Prelude.{Err, ◌≡◌, refl, Bool, true, false, List, ℕ, Float}
+use Rattle.std.proofs.Common.{sym, ap, ◌∙◌, arith, ne_eqb}
 use Rattle.std.specs.Float.{binary64}
 use Rattle.method.specs.Work.{Work}
 use Rattle.method.specs.Settings.{Settings}
@@ -11,6 +11,11 @@ use Rattle.method.specs.Outcome.{Outcome, outcome_of, outcome}
 use Rattle.method.specs.Ordered.{Ordered, ordered_of, lent_checks, ordered_outcome}
 use Rattle.method.specs.Profiles.{no_profile, Picked, picked, settings_by, profile_outcome, profile_ordered}
 use Rattle.method.proofs.Profiles.Table.{picked-there, picked_none}
+use Rattle.checks.specs.declared.refusal.Refusal.{Refusal as Refused}
+use Rattle.checks.specs.Values.{refusal_in}
+use Rattle.checks.specs.Refused.{refused_some}
+use Rattle.profiles.specs.Values.{picked_in}
+use Rattle.profiles.specs.Answers.{refused_by_ten}
 use Rattle.method.proofs.Profiles.Ways.{as_settings, none-refused_by, ordered-as_settings, ordered-none_refused}
 
 -- a number is picked, or not, as its profile is there or not
@@ -34,6 +39,15 @@ module _ (k : ℕ) (p : Picked) (e : p ≡ picked binary64 k) where
 
   pub picks_settings : p.settings ≡ settings_by binary64 k
   picks_settings = ap (λ (x : Picked). x.settings) e
+
+-- where the refusal is picked, it is by 10
+pub none_by_ten :
+    (k : ℕ) (e : Refused) → picked_in (Err e) ≡ picked binary64 k → refusal_in e ≡ refusal 10 nowhere
+none_by_ten k e d = ap refusal_in (refused_by_ten k e (picks_none k (picked_in (Err e)) d (refused_some e)) d)
+
+-- what is lent is refused first
+pub or_first : (r q : Refusal) → ¬ (r.number ≡ 0) → r ≡ or_else r q
+or_first r q h = rw (ne_eqb r.number 0 h, or_else) refl
 
 -- the plain and the accumulating call
 module _ (kept : Bool) (rows cols k : ℕ) (w : Work) (p : Picked) (e : p ≡ picked binary64 k) where

@@ -8,7 +8,8 @@ use float::is_finite;
 
 // The station (row) and the pass (column) of the first reading that is infinite or NaN, from 0, and
 // how many such readings there are in all; zeros where there is none.
-#[derive(Clone, Copy)]
+// Kept: no Option: the definitions `nowhere`, `counted` and `bad_readings` say by zeros that there is none.
+#[derive(Clone, Copy, Debug, Default, PartialEq, Eq)]
 pub struct Place {
     pub row: usize,
     pub column: usize,
@@ -20,11 +21,7 @@ impl Place {
     pub fn nowhere() -> Place
         ensures { place_in result ≡ nowhere }
     {
-        Place {
-            row: 0,
-            column: 0,
-            bad: 0,
-        }
+        Place::default()
     }
 
     // One bad reading more, at that row and column: the first says where it is, and each is counted.
@@ -34,19 +31,19 @@ impl Place {
     {
         if self.bad == 0 {
             return Place {
-                row: row,
-                column: column,
+                row,
+                column,
                 bad: 1,
             };
         }
         Place {
-            row: self.row,
-            column: self.column,
             bad: self.bad + 1,
+            ..self
         }
     }
 
     // Reading (row, column) is x.
+    // Kept: no `&mut self`: the definition `looked` makes a place of a place, and so the loop reads.
     pub(crate) fn looked(self, row: usize, column: usize, x: f64) -> Place
         requires { self.bad < most_size * most_size }
         ensures { place_in result ≡ looked row column x (place_in self) }

@@ -1,41 +1,66 @@
 // The first refusal that applies to a call, looked for before any number is touched; and that of what
 // a call is lent.
+// Kept: lists one by one, as the C interface lends them; rows and columns as `refusal_of` takes them.
 ghost use Rattle.std.specs.Prelude.{◌≡◌, true, not, ◌&&◌, ◌||◌, eqb, ltb, ◌*◌, ◌≤◌, length};
 ghost use Rattle.method.specs.Work.{work};
 ghost use Rattle.method.specs.Settings.{most_size, most_limit, most_credit};
-ghost use Rattle.method.specs.Checks.{bound_fit, floor_fit, first_of, nowhere, refusal, refusal_of};
+ghost use Rattle.method.specs.Checks.{bound_fit, floor_fit, first_of, refusal_of};
 ghost use Rattle.method.specs.Checks.{size_checks, length_checks, table_checks, setting_checks, reading_checks};
 ghost use Rattle.method.specs.Ordered.{list_checks, lent_checks};
-ghost use Rattle.checks.specs.Values.{settings_of, refusal_in};
+ghost use Rattle.checks.specs.Values.{settings_of, place_in, refusal_in, checked, number_of, place_of};
 
 use crate::place::Place;
 use crate::search::bad_readings;
 use crate::settings::Settings;
-use crate::sizes::smaller_size;
+use crate::sizes::{MOST_SIZE, smaller_size};
 use float::is_finite;
 
-// The most rows and the most columns of a table: `most_size` of method.
-const MOST_SIZE: usize = 48;
-
-// The number of a refusal, 0 where there is none; and the place that 8 carries, zeros with any other.
-#[derive(Clone, Copy)]
-pub struct Refusal {
-    pub number: usize,
-    pub place: Place,
+// Why a call is refused. A reading that is no number goes with the place of the first and the count of all.
+#[derive(Clone, Copy, Debug, PartialEq, Eq)]
+pub enum Refusal {
+    NoSize,
+    TooLarge,
+    TableLength,
+    ULength,
+    VLength,
+    OverLimit,
+    UnfitBounds,
+    BadReadings(Place),
+    NoProfile,
+    ListLength,
 }
 
 impl Refusal {
-    // The refusal by a number that carries no place; by 0 there is none.
-    pub fn by(number: usize) -> Refusal
-        ensures { refusal_in result ≡ refusal number nowhere }
+    // The number by which the refusal is handed on and stored.
+    pub fn number(self) -> usize
+        ensures { result ≡ number_of (refusal_in self) }
     {
-        Refusal {
-            number: number,
-            place: Place::nowhere(),
+        match self {
+            Refusal::NoSize => 1,
+            Refusal::TooLarge => 2,
+            Refusal::TableLength => 3,
+            Refusal::ULength => 4,
+            Refusal::VLength => 5,
+            Refusal::OverLimit => 6,
+            Refusal::UnfitBounds => 7,
+            Refusal::BadReadings(_) => 8,
+            Refusal::NoProfile => 10,
+            Refusal::ListLength => 11,
+        }
+    }
+
+    // The place that it carries: zeros with all but one.
+    pub fn place(self) -> Place
+        ensures { place_in result ≡ place_of (refusal_in self) }
+    {
+        match self {
+            Refusal::BadReadings(place) => place,
+            _ => Place::nowhere(),
         }
     }
 }
 
+// Kept: a function for each test; one for two, with the comparison as a closure, is longer than both.
 fn no_size(rows: usize, cols: usize) -> bool
     ensures { result ≡ (eqb rows 0 || eqb cols 0) }
 {
@@ -49,6 +74,8 @@ fn too_large(rows: usize, cols: usize) -> bool
 }
 
 // A list that the call keeps has another length than it must.
+// Kept: table and list of values say `true`, since every call keeps them: one test serves all four lists.
+// Kept: a flag says whether U and V are kept, as the definitions `length_checks` and `refusal_of` take it.
 fn wrong_length(kept: bool, len: usize, whole: usize) -> bool
     ensures { result ≡ (kept && not (eqb len whole)) }
 {
@@ -78,70 +105,69 @@ fn floor_fit(x: f64) -> bool
 fn bounds_unfit(s: Settings) -> bool
     ensures { result ≡ not (bound_fit s.tolerance && bound_fit s.absolute && floor_fit s.floor) }
 {
-    if bound_fit(s.tolerance) {
-        if bound_fit(s.absolute) {
-            return !floor_fit(s.floor);
-        }
-    }
-    true
+    !(bound_fit(s.tolerance) && bound_fit(s.absolute) && floor_fit(s.floor))
 }
 
 // ---- one function a segment of the table
 
-fn size_refusal(rows: usize, cols: usize) -> Refusal
-    ensures { refusal_in result ≡ first_of (size_checks rows cols) }
+fn size_refusal(rows: usize, cols: usize) -> Result<(), Refusal>
+    ensures { checked result ≡ first_of (size_checks rows cols) }
 {
     if no_size(rows, cols) {
-        return Refusal::by(1);
+        return Err(Refusal::NoSize);
     }
     if too_large(rows, cols) {
-        return Refusal::by(2);
+        return Err(Refusal::TooLarge);
     }
-    Refusal::by(0)
+    Ok(())
 }
 
 // The plain call keeps no factors, and has no 4 and 5.
-fn length_refusal(b: &[f64], u: &[f64], v: &[f64], kept: bool, rows: usize, cols: usize) -> Refusal
+fn length_refusal(
+    b: &[f64],
+    u: &[f64],
+    v: &[f64],
+    kept: bool,
+    rows: usize,
+    cols: usize,
+) -> Result<(), Refusal>
     requires { (rows ≤ most_size) × (cols ≤ most_size) }
-    ensures { refusal_in result
+    ensures { checked result
         ≡ first_of (length_checks kept rows cols (work b.now u.now v.now)) }
 {
     if wrong_length(true, b.len(), rows * cols) {
-        return Refusal::by(3);
+        return Err(Refusal::TableLength);
     }
     if wrong_length(kept, u.len(), rows * rows) {
-        return Refusal::by(4);
+        return Err(Refusal::ULength);
     }
     if wrong_length(kept, v.len(), cols * cols) {
-        return Refusal::by(5);
+        return Err(Refusal::VLength);
     }
-    Refusal::by(0)
+    Ok(())
 }
 
-fn setting_refusal(s: Settings) -> Refusal
-    ensures { refusal_in result ≡ first_of (setting_checks (settings_of s)) }
+fn setting_refusal(s: Settings) -> Result<(), Refusal>
+    ensures { checked result ≡ first_of (setting_checks (settings_of s)) }
 {
     if over_limit(s) {
-        return Refusal::by(6);
+        return Err(Refusal::OverLimit);
     }
     if bounds_unfit(s) {
-        return Refusal::by(7);
+        return Err(Refusal::UnfitBounds);
     }
-    Refusal::by(0)
+    Ok(())
 }
 
-fn reading_refusal(b: &[f64], rows: usize, cols: usize) -> Refusal
+fn reading_refusal(b: &[f64], rows: usize, cols: usize) -> Result<(), Refusal>
     requires { (length b.now ≡ rows * cols) × (rows ≤ most_size) × (cols ≤ most_size) }
-    ensures { refusal_in result ≡ first_of (reading_checks rows cols b.now) }
+    ensures { checked result ≡ first_of (reading_checks rows cols b.now) }
 {
     let place = bad_readings(b, rows, cols);
     if place.bad > 0 {
-        return Refusal {
-            number: 8,
-            place: place,
-        };
+        return Err(Refusal::BadReadings(place));
     }
-    Refusal::by(0)
+    Ok(())
 }
 
 // The first refusal that applies to what the plain or the accumulating call is lent: of the sizes, and then
@@ -153,14 +179,11 @@ pub fn table_refusal(
     kept: bool,
     rows: usize,
     cols: usize,
-) -> Refusal
-    ensures { refusal_in result
+) -> Result<(), Refusal>
+    ensures { checked result
         ≡ first_of (table_checks kept rows cols (work b.now u.now v.now)) }
 {
-    let of_sizes = size_refusal(rows, cols);
-    if of_sizes.number != 0 {
-        return of_sizes;
-    }
+    size_refusal(rows, cols)?;
     length_refusal(b, u, v, kept, rows, cols)
 }
 
@@ -173,30 +196,24 @@ pub fn first_refusal(
     rows: usize,
     cols: usize,
     s: Settings,
-) -> Refusal
-    ensures { refusal_in result
+) -> Result<(), Refusal>
+    ensures { checked result
         ≡ refusal_of kept rows cols (settings_of s) (work b.now u.now v.now) }
 {
-    let of_table = table_refusal(b, u, v, kept, rows, cols);
-    if of_table.number != 0 {
-        return of_table;
-    }
-    let of_settings = setting_refusal(s);
-    if of_settings.number != 0 {
-        return of_settings;
-    }
+    table_refusal(b, u, v, kept, rows, cols)?;
+    setting_refusal(s)?;
     reading_refusal(b, rows, cols)
 }
 
 // The list of the ordered call has as many entries as the smaller of rows and columns.
-fn list_refusal(list: &[f64], rows: usize, cols: usize) -> Refusal
-    ensures { refusal_in result ≡ first_of (list_checks rows cols list.now) }
+fn list_refusal(list: &[f64], rows: usize, cols: usize) -> Result<(), Refusal>
+    ensures { checked result ≡ first_of (list_checks rows cols list.now) }
 {
     let whole = smaller_size(rows, cols);
     if wrong_length(true, list.len(), whole) {
-        return Refusal::by(11);
+        return Err(Refusal::ListLength);
     }
-    Refusal::by(0)
+    Ok(())
 }
 
 // The first refusal that applies to what the ordered call is lent: of the sizes, of the lengths, of
@@ -208,13 +225,10 @@ pub fn lent_refusal(
     list: &[f64],
     rows: usize,
     cols: usize,
-) -> Refusal
-    ensures { refusal_in result
+) -> Result<(), Refusal>
+    ensures { checked result
         ≡ first_of (lent_checks rows cols (work b.now u.now v.now) list.now) }
 {
-    let of_table = table_refusal(b, u, v, true, rows, cols);
-    if of_table.number != 0 {
-        return of_table;
-    }
+    table_refusal(b, u, v, true, rows, cols)?;
     list_refusal(list, rows, cols)
 }

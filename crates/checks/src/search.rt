@@ -8,6 +8,7 @@ use crate::place::Place;
 
 // Where the first reading that is infinite or NaN stands, and how many there are: one pass over the
 // table, to its end.
+// Kept: `b.chunks(cols)` stops where there are no columns, and this function's clause allows that.
 pub(crate) fn bad_readings(b: &[f64], rows: usize, cols: usize) -> Place
     requires { (length b.now ≡ rows * cols) × (rows ≤ most_size) × (cols ≤ most_size) }
     ensures { place_in result ≡ bad_readings cols rows cols b.now }

@@ -6,7 +6,7 @@ ghost use Rattle.checks.specs.Values.{settings_of};
 // A call refuses a limit above 100,000 or a credit above 1,000 (number 6), and a tolerance or an
 // absolute bound that is not finite or is below zero, or a floor that is not finite or not above
 // zero (number 7).
-#[derive(Clone, Copy)]
+#[derive(Clone, Copy, Debug, PartialEq)]
 pub struct Settings {
     // How far the counter may rise: it rises by 1 a pass.
     pub limit: usize,
@@ -36,7 +36,7 @@ impl Settings {
 
     pub const MOST_CREDIT: usize = 1000;
 
-    // The defaults.
+    // The defaults, as `Default` has them, too.
     pub fn new() -> Settings
         ensures { settings_of result ≡ defaults }
     {
@@ -47,5 +47,13 @@ impl Settings {
             absolute: Settings::ABSOLUTE,
             floor: Settings::FLOOR,
         }
+    }
+}
+
+impl Default for Settings {
+    ghost is_default = { λ s. settings_of s ≡ defaults };
+
+    fn default() -> Settings {
+        Settings::new()
     }
 }

@@ -12,6 +12,7 @@ use std::io::{Read, Result, Write};
 
 // Reads until buf is full or the input ends, and answers how many bytes stand at the start of buf.
 // On an empty buf it reads nothing. A read that fails, or that a signal interrupts, is an error.
+// Kept: `read_exact` of std fails where the input ends early; its other calls fill a Vec or read byte by byte.
 pub fn read_full<R: Read>(input: &mut R, buf: &mut [u8]) -> Result<usize>
     ensures bound { ReadsAtMost result buf.new }
     ensures bytes { IfOk result (λ n. Consumes (R.remaining input.old) (R.remaining input.new) (take n buf.new)) }
@@ -29,6 +30,7 @@ pub fn read_full<R: Read>(input: &mut R, buf: &mut [u8]) -> Result<usize>
 }
 
 // Prints n in decimal, with no line end.
+// Kept: a function for a format, since its clause says which bytes are printed; so with `print_hex`.
 pub fn print_decimal<W: Write>(out: &mut W, n: u64) -> Result<()>
     ensures { OnOk result (Appends (W.contents out.old) (W.contents out.new) (decimal n)) }
 {

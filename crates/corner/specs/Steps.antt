@@ -1,7 +1,7 @@
 -- The search through the corner, as the code goes: from one coupling to the next, a row and an entry further. Assumes
 -- nothing.
-use Rattle.std.specs.Prelude.{◌≡◌, refl, Bool, true, false, List, ℕ, ◌+◌, ◌-◌, ◌≤◌, ◌<◌, ltb, leb, length, get_or, Float}
-use Rattle.std.proofs.Common.{sym, ◌∙◌, arith, ltb-true, ltb-false, leb-true, leb-false}
+use Rattle.std.specs.Prelude.{◌≡◌, refl, Bool, true, false, List, ℕ, ◌+◌, ◌-◌, ◌^◌, ◌≤◌, ◌<◌, min, ltb, leb, length, get_or, Float}
+use Rattle.std.proofs.Common.{sym, ap, ◌∙◌, arith, ltb-true, ltb-false, leb-true, leb-false}
 use Rattle.std.proofs.lemmas.Bool.{false≢true}
 use Rattle.std.proofs.Math.ListN.{get_or-eq_default}
 use Rattle.std.specs.Float.{nan}
@@ -41,22 +41,43 @@ module _ (upper : Bool) (stride : ℕ) (b : List Float) where
       go true = omega (arith, row_next k stride)
       go false = omega (arith, row_next k stride, row_next (k + 1) stride)
 
-  -- the corner of range `known` is quiet, and its next coupling stands at `at`
+  -- the corner of range `known` is quiet, and its next coupling stands at `at`, or where `at` is the greatest number there
+  -- or beyond
   pub record Inv (at known : ℕ) : Type 0 where
     pub some : 1 ≤ known
-    pub place : at ≡ coupling_place upper stride (known - 1)
+    pub place : at ≡ min (coupling_place upper stride (known - 1)) (2 ^ 64 - 1)
     pub quiet : quiet_corner upper stride known b ≡ true
 
-  pub inv_start : (at : ℕ) → at ≡ pick upper 1 stride → Inv at 1
-  inv_start at e = record { some = omega arith; place = e ∙ go upper; quiet = quiet_none upper stride b 1 (omega arith) }
+  pub inv_start : (at : ℕ) → at ≡ pick upper 1 stride → at ≤ 2 ^ 64 - 1 → Inv at 1
+  inv_start at e h = record {
+    some = omega arith;
+    place = go (coupling_place upper stride (1 - 1)) (2 ^ 64 - 1) (e ∙ first upper) h;
+    quiet = quiet_none upper stride b 1 (omega arith);
+  }
     where
-      go : (upper : Bool) → pick upper 1 stride ≡ coupling_place upper stride (1 - 1)
-      go true = omega arith
-      go false = omega arith
+      first : (upper : Bool) → pick upper 1 stride ≡ coupling_place upper stride (1 - 1)
+      first true = omega arith
+      first false = omega arith
 
-  module _ {at known : ℕ} (i : Inv at known) where
+      go : (p top : ℕ) → at ≡ p → at ≤ top → at ≡ min p top
+      go p top e h = omega arith
+
+  module _ {at known : ℕ} (i : Inv at known) (room : length b ≤ 2 ^ 64 - 1) where
+    -- behind the list's end the one is as good as the other
     here : get_or b at nan ≡ coupling upper stride (known - 1) b
-    here = rw i.place (sym (at_place (known - 1)))
+    here = rw i.place (go (coupling_place upper stride (known - 1)) (2 ^ 64 - 1) room) ∙ sym (at_place (known - 1))
+      where
+        go : (p top : ℕ) → length b ≤ top → get_or b (min p top) nan ≡ get_or b p nan
+        go p top h = by (leb p top) refl
+          where
+            by : (t : Bool) → leb p top ≡ t → get_or b (min p top) nan ≡ get_or b p nan
+            by true t =
+                let inner : min p top ≡ p = omega (arith, leb-true p top t) in
+                ap (λ (k : ℕ). get_or b k nan) inner
+            by false t =
+                let outer : length b ≤ p = omega (arith, leb-false p top t) in
+                let end : length b ≤ min p top = omega (arith, leb-false p top t) in
+                get_or-eq_default b nan end ∙ sym (get_or-eq_default b nan outer)
 
     -- the coupling is zero, and with it one more
     more : is_zero (get_or b at nan) ≡ true → quiet_corner upper stride (known + 1) b ≡ true
@@ -67,39 +88,33 @@ module _ (upper : Bool) (stride : ℕ) (b : List Float) where
         let one : is_zero (coupling upper stride (known - 1) b) ≡ true = rw (← here) z in
         rw (e, quiet_next upper stride b (known - 1), before, one) refl
 
-    pub inv_next : is_zero (get_or b at nan) ≡ true → Inv (at + stride + 1) (known + 1)
-    inv_next z =
+    pub inv_next :
+        is_zero (get_or b at nan) ≡ true → (next : ℕ) → next ≡ min (min (at + stride) (2 ^ 64 - 1) + 1) (2 ^ 64 - 1) →
+        Inv next (known + 1)
+    inv_next z next e =
         let d : known + 1 - 1 ≡ known - 1 + 1 = omega (arith, i.some) in
         record {
           some = omega arith;
-          place = rw (d, next_place (known - 1), ← i.place) refl;
+          place =
+              rw (d, next_place (known - 1))
+              (e ∙ go at (coupling_place upper stride (known - 1)) (2 ^ 64 - 1) i.place);
           quiet = more z;
         }
+      where
+        go :
+            (at p top : ℕ) → at ≡ min p top →
+            min (min (at + stride) top + 1) top ≡ min (p + stride + 1) top
+        go at p top e = omega arith
 
-    module _ (range : ℕ) where
-      -- it is not, and the corner is not quiet
-      pub inv_loud : known < range → is_zero (get_or b at nan) ≡ false → false ≡ quiet_corner upper stride range b
-      inv_loud h z =
-          sym (not_quiet upper stride b range (known - 1) (omega (arith, i.some)) (rw (← here) z))
+    -- it is not, and the corner is not quiet
+    pub inv_loud :
+        (range : ℕ) → known < range → is_zero (get_or b at nan) ≡ false → false ≡ quiet_corner upper stride range b
+    inv_loud range h z =
+        sym (not_quiet upper stride b range (known - 1) (omega (arith, i.some)) (rw (← here) z))
 
-      -- all were looked at
-      pub inv_done : range ≤ known → true ≡ quiet_corner upper stride range b
-      inv_done h =
-          sym
-          ((quiet_says upper stride b range).1
-          (λ k l. (quiet_says upper stride b known).0 i.quiet k (omega arith)))
-
-  -- the list ends before the next coupling
-  pub inv_ends :
-      {at known : ℕ} → Inv at known →
-      (range : ℕ) → known < range → is_zero (get_or b at nan) ≡ true → length b - at ≤ stride →
-      leb range (known + 1) ≡ quiet_corner upper stride range b
-  inv_ends {at} {known} i range h z short = go (leb range (known + 1)) refl
-    where
-      j : Inv (at + stride + 1) (known + 1)
-      j = inv_next i z
-
-      go : (t : Bool) → leb range (known + 1) ≡ t → t ≡ quiet_corner upper stride range b
-      go true t = inv_done j range (leb-true range (known + 1) t)
-      go false t =
-          inv_loud j range (leb-false range (known + 1) t) (behind b (at + stride + 1) (omega (arith, inside b at z)))
+  -- all were looked at
+  pub inv_done : {at known : ℕ} → Inv at known → (range : ℕ) → range ≤ known → true ≡ quiet_corner upper stride range b
+  inv_done {known = known} i range h =
+      sym
+      ((quiet_says upper stride b range).1
+      (λ k l. (quiet_says upper stride b known).0 i.quiet k (omega arith)))

@@ -7,6 +7,7 @@ ghost use Rattle.method.specs.Floats.{is_zero};
 ghost use Rattle.method.specs.Quiet.{quiet_corner};
 
 // Whether x is +0 or -0.
+// Kept: a function for `==`, since its clause says of the comparison that it is the definition `is_zero`.
 fn zero(x: f64) -> bool
     ensures { result ≡ is_zero x }
 {
@@ -17,30 +18,22 @@ fn zero(x: f64) -> bool
 fn zero_at(b: &[f64], at: usize) -> bool
     ensures { result ≡ is_zero (get_or b.now at nan) }
 {
-    if at < b.len() { zero(b[at]) } else { false }
+    b.get(at).is_some_and(|x| zero(*x))
 }
 
 // Whether the corner of a range is quiet, in a table whose rows start `stride` entries apart. Its
 // couplings stand right of the diagonal in the upper form and below it in the lower, from one to the
-// next a row and an entry further. One that lies behind the end of the list is not zero. The corner
-// of range `known` is known to be quiet, and the coupling at `at` is the next one.
+// next a row and an entry further. One that lies behind the end of the list is not zero.
+// Kept: `upper` is a flag and b has its stride beside it, as the definition `quiet_corner` takes them.
 pub fn is_quiet(b: &[f64], stride: usize, upper: bool, range: usize) -> bool
     ensures { result ≡ quiet_corner upper stride range b.now }
 {
-    let mut at = stride;
-    if upper {
-        at = 1;
-    }
-    let mut known = 1;
-    while known < range {
+    let mut at = if upper { 1 } else { stride };
+    for _ in 1..range {
         if !zero_at(b, at) {
             return false;
         }
-        known += 1;
-        if b.len() - at <= stride {
-            return range <= known;
-        }
-        at = at + stride + 1;
+        at = at.saturating_add(stride).saturating_add(1);
     }
     true
 }

@@ -1,30 +1,21 @@
 -- For the proof of the identity fill: what each way out answers. Assumes nothing.
-use Rattle.std.specs.Prelude.{◌≡◌, refl, List, [], ◌∷◌, ◌++◌, ℕ, zero, suc, ◌+◌, ◌<◌, length, set, drop, replicate, Float}
-use Rattle.std.proofs.Common.{sym, ap, ◌∙◌, append-nil, not-suc-le-zero, le_of_suc-le-suc, add-one, arith}
-use Rattle.std.proofs.Math.Seq.{drop-length}
-use Rattle.method.specs.Floats.{plus_zero}
+use Rattle.std.specs.Prelude.{◌≡◌, List, ℕ, ◌<◌, Result, Ok, Err, Float}
+use Rattle.std.proofs.Common.{sym, ap, ◌∙◌, arith}
 use Rattle.method.specs.Fill.{identity, filled, fill_number, fill_outcome}
+use Rattle.factors.specs.declared.identity.Unfit.{Unfit}
+use Rattle.factors.specs.declared.identity.Unfit.TheVariants.{NoSize, TooLarge, WrongLength}
 use Rattle.method.specs.Fill.Numbers.{FillFit}
 use Rattle.method.proofs.Fill.Numbers.{fill_fit, fill_refused, fill_accepted}
 
--- the next entry after k zeros set to 0: one zero more
-zeros-set :
-    (k : ℕ) (d : List Float) → k < length d →
-    set (replicate k plus_zero ++ drop k d) k plus_zero ≡ replicate (suc k) plus_zero ++ drop (suc k) d
-zeros-set k [] h = absurd (not-suc-le-zero h)
-zeros-set zero (x ∷ d) h = refl
-zeros-set (suc k) (x ∷ d) h = ap {B = List Float} (λ l. plus_zero ∷ l) (zeros-set k d (le_of_suc-le-suc h))
+-- the number of a refusal, and of an answer: 0 where nothing is refused
+abbrev pub unfit_number : Unfit → ℕ
+unfit_number NoSize = 1
+unfit_number TooLarge = 2
+unfit_number WrongLength = 4
 
-pub zeros-more :
-    (k : ℕ) (a d : List Float) → k < length d → a ≡ replicate k plus_zero ++ drop k d →
-    set a k plus_zero ≡ replicate (k + 1) plus_zero ++ drop (k + 1) d
-zeros-more k a d h e = rw (e, add-one) (zeros-set k d h)
-
--- after all n entries, nothing but zeros
-pub zeros-all :
-    (n k : ℕ) (a d : List Float) → length d ≡ n → k ≡ n →
-    a ≡ replicate k plus_zero ++ drop k d → a ≡ replicate n plus_zero
-zeros-all n k a d h i e = e ∙ rw (i, ← h, drop-length) (append-nil _)
+abbrev pub fill_number_of : {A : Type 0} → Result A Unfit → ℕ
+fill_number_of (Ok x) = 0
+fill_number_of (Err e) = unfit_number e
 
 -- a fill that is refused by number k
 pub fill_with : (n k : ℕ) (a : List Float) → 0 < k → fill_number n a ≡ k → filled k a ≡ fill_outcome n a

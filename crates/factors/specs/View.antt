@@ -1,11 +1,11 @@
 -- Where the view of a row lies, and for its proof what each way out answers. Assumes nothing.
-use Rattle.std.specs.Prelude.{◌≡◌, Bool, true, false, List, ℕ, ◌+◌, ◌-◌, ◌*◌, ◌≤◌, ◌<◌, ltb, eqb, length, take, drop, Float}
+use Rattle.std.specs.Prelude.{◌≡◌, true, false, List, [], ℕ, ◌+◌, ◌*◌, ◌≤◌, ◌<◌, eqb, length, Float}
 use Rattle.std.proofs.Math.Path.{refl}
-use Rattle.std.proofs.Common.{sym, ap, ◌∙◌, true≢false}
+use Rattle.std.proofs.Common.{sym, ◌∙◌, true≢false}
 use native.Mathlib.Omega.{arith}
-use borrow.Author.Tests.{ltb-true, ltb-false, eq-eqb, ne_eqb}
+use borrow.Author.Tests.{eq-eqb, ne_eqb}
 use Rattle.method.specs.Floats.{pick}
-use Rattle.method.specs.View.{view_fit, row_viewed}
+use Rattle.method.specs.View.{view_fit, row_of, row_viewed}
 use Rattle.method.specs.View.Rows.{ViewFit}
 use Rattle.method.proofs.View.Rows.{view_fit_lem, row_viewed_lem, row_refused}
 use Rattle.method.proofs.Index.{row_in, few}
@@ -46,10 +46,8 @@ module _ {rows cols : ℕ} {u v : List Float} {side k : ℕ} (fit : ViewFit rows
         few = rw fit.u_length (few rows rows fit.rows_few (omega (arith, fit.rows_few)));
       }
 
-  pub u_row : side ≡ 0 → take (k * rows + rows - k * rows) (drop (k * rows) u) ≡ row_viewed rows cols u v side k
-  u_row e =
-      let size : k * rows + rows - k * rows ≡ rows = omega arith in
-      rw size (sym (row_viewed_lem rows cols u v side k fit ∙ rw (eq-eqb side 0 e) refl))
+  pub u_row : side ≡ 0 → row_of rows k u ≡ row_viewed rows cols u v side k
+  u_row e = sym (row_viewed_lem rows cols u v side k fit ∙ rw (eq-eqb side 0 e) refl)
 
   pub u_place : (p q : Place) → side ≡ 0 → entry_at p (k * rows) ≡ view_place rows cols u v side k p q
   unfolding view_place
@@ -64,10 +62,8 @@ module _ {rows cols : ℕ} {u v : List Float} {side k : ℕ} (fit : ViewFit rows
         few = rw fit.v_length (few cols cols fit.cols_few (omega (arith, fit.cols_few)));
       }
 
-  pub v_row : ¬ (side ≡ 0) → take (k * cols + cols - k * cols) (drop (k * cols) v) ≡ row_viewed rows cols u v side k
-  v_row e =
-      let size : k * cols + cols - k * cols ≡ cols = omega arith in
-      rw size (sym (row_viewed_lem rows cols u v side k fit ∙ rw (ne_eqb side 0 e) refl))
+  pub v_row : ¬ (side ≡ 0) → row_of cols k v ≡ row_viewed rows cols u v side k
+  v_row e = sym (row_viewed_lem rows cols u v side k fit ∙ rw (ne_eqb side 0 e) refl)
 
   pub v_place : (p q : Place) → ¬ (side ≡ 0) → entry_at q (k * cols) ≡ view_place rows cols u v side k p q
   unfolding view_place
@@ -77,41 +73,9 @@ module _ {rows cols : ℕ} {u v : List Float} {side k : ℕ} (fit : ViewFit rows
 
 module _ (rows cols : ℕ) (u v : List Float) (side k : ℕ) where
   -- what is answered where the test is false
-  pub no_row : view_fit rows cols u v side k ≡ false → take (0 - 0) (drop 0 u) ≡ row_viewed rows cols u v side k
+  pub no_row : view_fit rows cols u v side k ≡ false → [] ≡ row_viewed rows cols u v side k
   no_row e = sym (row_refused rows cols u v side k (λ x. true≢false (sym ((view_fit_lem rows cols u v side k).1 x) ∙ e)))
 
-  pub no_place : (p q : Place) → view_fit rows cols u v side k ≡ false → entry_at p 0 ≡ view_place rows cols u v side k p q
+  pub no_place : (p q : Place) → view_fit rows cols u v side k ≡ false → p ≡ view_place rows cols u v side k p q
   unfolding view_place
-  no_place p q e =
-      let same : 0 * 8 + p.1 ≡ p.1 = omega arith in
-      rw (e, view_place) (ap {B = Place} (λ (o : ℕ). (p.0, o)) same)
-
-  -- the test is false where it is not fit
-  pub not_fit : ¬ ViewFit rows cols u v side k → false ≡ view_fit rows cols u v side k
-  not_fit h = go (view_fit rows cols u v side k) refl
-    where
-      go : (b : Bool) → view_fit rows cols u v side k ≡ b → false ≡ view_fit rows cols u v side k
-      go true t = absurd (h ((view_fit_lem rows cols u v side k).0 t))
-      go false t = sym t
-
--- ---- the test itself
-
--- sizes and lengths are fit: side and row are left
-module _
-    {rows cols : ℕ} {u v : List Float} {side k : ℕ}
-    (made : side ≤ 1 → k < pick (eqb side 0) rows cols → ViewFit rows cols u v side k) where
-  -- the row's test, against the size n of the side
-  of_side : (n : ℕ) → side ≤ 1 → pick (eqb side 0) rows cols ≡ n → ltb k n ≡ view_fit rows cols u v side k
-  of_side n known e = go (ltb k n) refl
-    where
-      go : (b : Bool) → ltb k n ≡ b → b ≡ view_fit rows cols u v side k
-      go true t = sym ((view_fit_lem rows cols u v side k).1 (made known (rw e (ltb-true k n t))))
-      go false t =
-          not_fit rows cols u v side k
-          (λ x. let below = rw e at x.row_below_size in omega (arith, ltb-false k n t, below))
-
-  pub fit_u : side ≡ 0 → ltb k rows ≡ view_fit rows cols u v side k
-  fit_u e = of_side rows (omega arith) (rw (eq-eqb side 0 e) refl)
-
-  pub fit_v : side ≡ 1 → ltb k cols ≡ view_fit rows cols u v side k
-  fit_v e = of_side cols (omega arith) (rw (ne_eqb side 0 (λ z. omega arith)) refl)
+  no_place p q e = rw (e, view_place) refl

@@ -71,7 +71,7 @@ is_positive (fin false m e) h l =
     some a d k = omega arith
 
 -- what compares equal to +0 is a zero, and stays
-zero_stays : (x : Float) → eq x plus_zero ≡ true → square_root binary64 x ≡ x
+pub zero_stays : (x : Float) → eq x plus_zero ≡ true → square_root binary64 x ≡ x
 unfolding eq square_root
 zero_stays nan h = absurd (true≢false (sym h))
 zero_stays (inf s) h = absurd (true≢false (sym h))

@@ -1,29 +1,72 @@
 -- What a test for NaN and the highest bit of the pattern tell of a double. Assumes nothing.
 use mathlib.Core.Path.{◌≡◌, refl, sym, ap, ◌∙◌, subst}
-use Prim.Native.Nat.{ℕ, zero, suc, ◌+◌, ◌/◌, ◌%◌, ◌^◌, ◌≤◌, ◌<◌}
+use Prim.Native.Nat.{ℕ, zero, suc, ◌+◌, ◌/◌, ◌%◌, ◌^◌, ◌<◌}
 use native.Mathlib.Omega.{arith}
 use mathlib.Core.Bool.{Bool, true, false, not, cond, true≢false}
-use lib.IntN.{pos}
-use lib.Dec.{T, leb, eqb, le→leb}
+use lib.Dec.{T, leb, eqb}
 use lib.Arith.{lt→nleb}
 use lib.Ieee.{Float, nan, inf, fin, binary64, odd, fits, is_nan, of_fields, of_bits, to_bits, nan_bits}
-use lib.Ieee.Bits.{of_bits-to_bits, is_true, is_false, nan_bits_is}
+use lib.Ieee.Bits.{of_bits-to_bits, is_false, nan_bits_is}
+use Rattle.std.specs.Float.{float_is_finite, is_sign_negative, float_with_sign, float_signum}
+use lib.Ieee.Scale.{finite}
 use Rattle.method.specs.Floats.{magnitude, sign_of, negative, pick}
 
 -- what owning an `f64` tells: the format holds it
 pub held : (x : Float) → fits binary64 x ≡ true → T (fits binary64 x)
 held x h = subst T (sym h) tt
 
+-- ---- the library's words are the method's, case by case
+pub abs_is : (x : Float) → float_with_sign false x ≡ magnitude x
+unfolding float_with_sign magnitude
+abs_is nan = refl
+abs_is (inf s) = refl
+abs_is (fin s m e) = refl
+
+pub signum_is : (x : Float) → float_signum x ≡ sign_of x
+unfolding float_signum sign_of
+signum_is nan = refl
+signum_is (inf s) = refl
+signum_is (fin s m e) = refl
+
+pub sign_negative_is : (x : Float) → is_sign_negative x ≡ negative x
+unfolding is_sign_negative negative
+sign_negative_is nan = refl
+sign_negative_is (inf s) = refl
+sign_negative_is (fin s m e) = refl
+
+pub finite_is : (x : Float) → float_is_finite x ≡ finite x
+unfolding float_is_finite
+finite_is nan = refl
+finite_is (inf s) = refl
+finite_is (fin s m e) = refl
+
+-- a NaN has no sign, and is its magnitude
+pub nan-magnitude : (x : Float) → is_nan x ≡ true → x ≡ magnitude x
+unfolding is_nan magnitude
+nan-magnitude nan h = refl
+nan-magnitude (inf s) h = absurd (true≢false (sym h))
+nan-magnitude (fin s m e) h = absurd (true≢false (sym h))
+
+pub nan_unsigned : (x : Float) → is_nan x ≡ true → false ≡ negative x
+unfolding is_nan negative
+nan_unsigned nan h = refl
+nan_unsigned (inf s) h = absurd (true≢false (sym h))
+nan_unsigned (fin s m e) h = absurd (true≢false (sym h))
+
 -- ---- the two answers of `smaller` and `larger`
+pub second_nan : (x y : Float) (n t : Bool) → n ≡ true → y ≡ pick n y (pick t y x)
+second_nan x y true t h = refl
+second_nan x y false t h = absurd (true≢false (sym h))
+
 pub second : (x y : Float) (n t : Bool) → t ≡ true → y ≡ pick n y (pick t y x)
 second x y true t h = refl
 second x y false true h = refl
 second x y false false h = absurd (true≢false (sym h))
 
-pub first : (x y : Float) (n t : Bool) → T (not n) → t ≡ false → x ≡ pick n y (pick t y x)
-first x y true t n h = absurd n
-first x y false true n h = absurd (true≢false h)
-first x y false false n h = refl
+pub first : (x y : Float) (n t : Bool) → n ≡ false → t ≡ false → x ≡ pick n y (pick t y x)
+first x y true t h g = absurd (true≢false h)
+first x y false true h g = absurd (true≢false g)
+first x y false false h g = refl
 
 -- ---- the sign
 odd_signed : (d : ℕ) (s : Bool) (q k l : ℕ) → negative (odd d s q k l) ≡ s
@@ -54,25 +97,6 @@ bits-signed x F n =
     let b = to_bits binary64 x in
     let is : x ≡ of_fields binary64 (leb (2 ^ 63) b) (b % 2 ^ 63 / 2 ^ 52) (b % 2 ^ 52) = sym (of_bits-to_bits binary64 x F) ∙ of_bits_is b in
     ap negative is ∙ fields_signed (leb (2 ^ 63) b) (b % 2 ^ 63 / 2 ^ 52) (b % 2 ^ 52) (subst (λ (y : Float). T (not (is_nan y))) is n)
-
-sign_is : (x : Float) → T (not (is_nan x)) → fin (negative x) 1 (pos 0) ≡ sign_of x
-unfolding sign_of is_nan negative
-sign_is nan n = absurd n
-sign_is (inf s) n = refl
-sign_is (fin s m e) n = refl
-
-pub sign_clear :
-    (x : Float) → T (fits binary64 x) → T (not (is_nan x)) → to_bits binary64 x < 2 ^ 63 →
-    fin false 1 (pos 0) ≡ sign_of x
-sign_clear x F n h =
-    let b = to_bits binary64 x in
-    ap (λ (s : Bool). fin s 1 (pos 0)) (sym (bits-signed x F n ∙ is_false (leb (2 ^ 63) b) (lt→nleb (2 ^ 63) b h))) ∙ sign_is x n
-
-pub sign_set :
-    (x : Float) → T (fits binary64 x) → T (not (is_nan x)) → 2 ^ 63 ≤ to_bits binary64 x → fin true 1 (pos 0) ≡ sign_of x
-sign_set x F n h =
-    let b = to_bits binary64 x in
-    ap (λ (s : Bool). fin s 1 (pos 0)) (sym (bits-signed x F n ∙ is_true (leb (2 ^ 63) b) (le→leb (2 ^ 63) b h))) ∙ sign_is x n
 
 -- ---- the pattern without its highest bit is the magnitude's
 odd_magnitude : (d : ℕ) (s : Bool) (q k l : ℕ) → odd d false q k l ≡ magnitude (odd d s q k l)

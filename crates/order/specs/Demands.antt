@@ -27,21 +27,20 @@ use Rattle.method.proofs.Ordered.Laws as Laws
 use Rattle.method.specs.Rows.{Side, size_of, row_at, OwnRows, ZeroRow, exchanged}
 use Rattle.method.proofs.Rows.Ordered.{orders_own, orders_zero, orders_exchanged}
 use Rattle.checks.specs.declared.settings.Settings.{Settings}
-use Rattle.checks.specs.Values.{settings_of, place_in, refusal_in}
-use Rattle.svd.specs.declared.report.Report.{Report}
-use Rattle.svd.specs.declared.report.Word.TheVariants.{Settled}
-use Rattle.svd.specs.Values.{report_of, word_in, tally_of}
+use Rattle.checks.specs.Values.{settings_of}
+use Rattle.svd.specs.Values.{Answer, report_of}
 use Rattle.svd.specs.Demands.{Allowed}
-use Rattle.svd.specs.Answers.{report_one}
+use Rattle.order.specs.Values.{OrderedAnswer, ordered_report}
+use Rattle.order.specs.Answers.{ordered_report_one}
 use Rattle.order.specs.Told.{reports_of, lists_of, values_of, told-number, told-place, told-before, told-after}
-use Rattle.order.specs.Told.{told-run, told-settled}
+use Rattle.order.specs.Told.{told-run}
 use Rattle.order.specs.Told as Told
 
 -- On rows, cols, settings s, the lists w₀ and the list of values l₀ the call may report r and leave the lists w and the
 -- values l: the promise of `ordered_svd_decomposition`, as it stands on it.
-pub record OrderedAllowed (rows cols : ℕ) (s : Settings) (w₀ : Work) (l₀ : List Float) (r : Report) (w : Work)
+pub record OrderedAllowed (rows cols : ℕ) (s : Settings) (w₀ : Work) (l₀ : List Float) (r : OrderedAnswer) (w : Work)
     (l : List Float) : Type 0 where
-  pub promise : ordered_of (outcome_of (report_of r) w) l ≡ ordered_outcome binary64 rows cols (settings_of s) w₀ l₀
+  pub promise : ordered_of (outcome_of (ordered_report r) w) l ≡ ordered_outcome binary64 rows cols (settings_of s) w₀ l₀
 
 module _ (rows cols : ℕ) (s : Settings) (w₀ : Work) where
   -- the accumulating run; its diagonal; the old position of value k, and the new place of old position i
@@ -57,7 +56,7 @@ module _ (rows cols : ℕ) (s : Settings) (w₀ : Work) where
   abbrev pub place : ℕ → ℕ
   place = new_place (card rows cols) (ahead d)
 
-module _ (rows cols : ℕ) (s : Settings) (w₀ : Work) (l₀ : List Float) (r : Report) (w : Work) (l : List Float) where
+module _ (rows cols : ℕ) (s : Settings) (w₀ : Work) (l₀ : List Float) (r : OrderedAnswer) (w : Work) (l : List Float) where
   -- ---- 1. what is unfit is refused, by number, in a fixed order, and nothing else is
 
   pub record Refuses : Type 0 where
@@ -65,22 +64,22 @@ module _ (rows cols : ℕ) (s : Settings) (w₀ : Work) (l₀ : List Float) (r :
     -- then of those after it (12, 13); 0 is answered exactly when none holds
     pub number :
         (k : ℕ) →
-        (r.refusal.number ≡ k)
+        ((ordered_report r).refusal.number ≡ k)
         ↔ First k
         (ordered_meanings rows cols (settings_of s) w₀ l₀ ++ after_meanings rows cols (settings_of s) w₀ l₀ binary64)
     -- with 8 go the row and the column of the first reading that is not finite, and how many are not; with every other
     -- number three zeros; so the count is 0 exactly when the number is not 8
-    pub bad_reading : r.refusal.number ≡ 8 → FirstBad cols rows cols w₀.matrix (place_in r.refusal.place)
-    pub no_place : ¬ (r.refusal.number ≡ 8) → place_in r.refusal.place ≡ nowhere
-    pub none-bad : (r.refusal.place.bad ≡ 0) ↔ (¬ (r.refusal.number ≡ 8))
+    pub bad_reading : (ordered_report r).refusal.number ≡ 8 → FirstBad cols rows cols w₀.matrix ((ordered_report r).refusal.place)
+    pub no_place : ¬ ((ordered_report r).refusal.number ≡ 8) → (ordered_report r).refusal.place ≡ nowhere
+    pub none-bad : ((ordered_report r).refusal.place.bad ≡ 0) ↔ (¬ ((ordered_report r).refusal.number ≡ 8))
     -- a call refused before the run reports that alone, and writes nothing
-    pub alone : ¬ (r.refusal.number ≡ 0) → r.refusal.number < 12 → report_of r ≡ refused (refusal_in r.refusal)
-    pub untouched : ¬ (r.refusal.number ≡ 0) → r.refusal.number < 12 → (w ≡ w₀) × (l ≡ l₀)
+    pub alone : ¬ ((ordered_report r).refusal.number ≡ 0) → (ordered_report r).refusal.number < 12 → ordered_report r ≡ refused (ordered_report r).refusal
+    pub untouched : ¬ ((ordered_report r).refusal.number ≡ 0) → (ordered_report r).refusal.number < 12 → (w ≡ w₀) × (l ≡ l₀)
     -- a call refused after it, by 12 or 13, has the run's report but for the number, leaves matrix, U and V as the run
     -- has them, and the list of values as it was
     pub after :
-        12 ≤ r.refusal.number →
-        (report_of r ≡ refused_after (refusal_in r.refusal) (ran rows cols s w₀).report)
+        12 ≤ (ordered_report r).refusal.number →
+        (ordered_report r ≡ refused_after (ordered_report r).refusal (ran rows cols s w₀).report)
         × (w ≡ (ran rows cols s w₀).held)
         × (l ≡ l₀)
 
@@ -88,8 +87,8 @@ module _ (rows cols : ℕ) (s : Settings) (w₀ : Work) (l₀ : List Float) (r :
 
   pub record InOrder : Type 0 where
     -- the report is the run's, which settled; the matrix is left as the run has it
-    pub report : report_of r ≡ (ran rows cols s w₀).report
-    pub settled : r.word ≡ Settled
+    pub report : ordered_report r ≡ (ran rows cols s w₀).report
+    pub settled : (ordered_report r).word ≡ Report.settled
     pub matrix : w.matrix ≡ (ran rows cols s w₀).held.matrix
     -- the old positions, as values take them: each once, the larger magnitude first, equal ones by lower old position;
     -- and no other list of positions is so
@@ -144,7 +143,7 @@ module _ (rows cols : ℕ) (s : Settings) (w₀ : Work) (l₀ : List Float) (r :
 
 -- ---- they hold of every answer
 
-module _ {rows cols : ℕ} {s : Settings} {w₀ : Work} {l₀ : List Float} {r : Report} {w : Work} {l : List Float} where
+module _ {rows cols : ℕ} {s : Settings} {w₀ : Work} {l₀ : List Float} {r : OrderedAnswer} {w : Work} {l : List Float} where
   pub refuses : OrderedAllowed rows cols s w₀ l₀ r w l → Refuses rows cols s w₀ l₀ r w l
   refuses a =
       let number = told-number rows cols s w₀ l₀ r w l a.promise in
@@ -169,7 +168,7 @@ module _ {rows cols : ℕ} {s : Settings} {w₀ : Work} {l₀ : List Float} {r :
       }
 
   pub in_order :
-      OrderedAllowed rows cols s w₀ l₀ r w l → r.refusal.number ≡ 0 → InOrder rows cols s w₀ l₀ r w l
+      OrderedAllowed rows cols s w₀ l₀ r w l → (ordered_report r).refusal.number ≡ 0 → InOrder rows cols s w₀ l₀ r w l
   in_order a e =
       let none = sym (told-number rows cols s w₀ l₀ r w l a.promise) ∙ e in
       let k = sorts rows cols (settings_of s) w₀ l₀ binary64 none in
@@ -179,9 +178,7 @@ module _ {rows cols : ℕ} {s : Settings} {w₀ : Work} {l₀ : List Float} {r :
       let v = ap (λ (x : Work). x.v) (lists_of q) in
       record {
         report = reports_of q;
-        settled =
-            told-settled rows cols s w₀ l₀ r w l a.promise
-            (sym (ap (λ (x : Report.Report). x.word) (reports_of q) ∙ k.settles));
+        settled = ap (λ (x : Report.Report). x.word) (reports_of q) ∙ k.settles;
         matrix = ap (λ (x : Work). x.matrix) (lists_of q);
         order = Laws.largest_first binary64 rows cols (settings_of s) w₀ l₀ k;
         only = Laws.only_order binary64 rows cols (settings_of s) w₀ l₀ k;
@@ -213,32 +210,32 @@ module _ {rows cols : ℕ} {s : Settings} {w₀ : Work} {l₀ : List Float} {r :
 -- Where the run was made, whether it was refused after it (12, 13) or not, word, counts and matrix are those of the
 -- accumulating call on the same input: all that the third demand says of its report holds of this one.
 pub as_full :
-    {rows cols : ℕ} {s : Settings} {w₀ w w' : Work} {l₀ l : List Float} {r r' : Report} →
+    {rows cols : ℕ} {s : Settings} {w₀ w w' : Work} {l₀ l : List Float} {r : OrderedAnswer} {r' : Answer} →
     OrderedAllowed rows cols s w₀ l₀ r w l →
     Allowed true rows cols s w₀ r' w' →
-    (r.refusal.number ≡ 0) ⊎ (12 ≤ r.refusal.number) →
-    (word_in r.word ≡ word_in r'.word)
-    × (tally_of r.tally ≡ tally_of r'.tally)
+    ((ordered_report r).refusal.number ≡ 0) ⊎ (12 ≤ (ordered_report r).refusal.number) →
+    ((ordered_report r).word ≡ (report_of r').word)
+    × ((ordered_report r).tally ≡ (report_of r').tally)
     × (w.matrix ≡ w'.matrix)
 as_full {rows} {cols} {s} {w₀} {w} {w'} {l₀} {l} {r} {r'} a a' =
     Told.as_full rows cols s w₀ l₀ r w l a.promise r' w' a'.promise
 
 -- a settled answer is, list, U and V included, the same answer at every greater allowed limit n, all else equal
 pub settled_in_order :
-    {rows cols n : ℕ} {s s' : Settings} {w₀ w w' : Work} {l₀ l l' : List Float} {r r' : Report} →
+    {rows cols n : ℕ} {s s' : Settings} {w₀ w w' : Work} {l₀ l l' : List Float} {r r' : OrderedAnswer} →
     OrderedAllowed rows cols s w₀ l₀ r w l →
     OrderedAllowed rows cols s' w₀ l₀ r' w' l' →
     settings_of s' ≡ at_limit n (settings_of s) →
     s.limit ≤ n →
     n ≤ most_limit →
-    r.word ≡ Settled →
+    (ordered_report r).word ≡ Report.settled →
     (r' ≡ r) × (w' ≡ w) × (l' ≡ l)
 settled_in_order {rows} {cols} {n} {s} {s'} {w₀} {w} {w'} {l₀} {l} {l'} {r} {r'} a a' g more most e =
     let p = a.promise in
-    let word = ap (λ (x : Report.Report). x.word) (sym (reports_of p)) ∙ ap word_in e in
+    let word = ap (λ (x : Report.Report). x.word) (sym (reports_of p)) ∙ e in
     let same = Laws.ordered-stays binary64 rows cols (settings_of s) w₀ l₀ n more most word in
     let q = rw g at a'.promise ∙ same ∙ sym p in
-    (report_one r' r (reports_of q), lists_of q, values_of q)
+    (ordered_report_one r' r (reports_of q), lists_of q, values_of q)
 
 -- ---- each station keeps its own row, and each pass: wherever the run was made (0, 12, 13)
 
@@ -246,20 +243,20 @@ settled_in_order {rows} {cols} {n} {s} {s'} {w₀} {w} {w'} {l₀} {l} {l'} {r} 
 -- written; where row i of the one U began as row j of the other, it ended as that one did, however the other rows and V
 -- began. The same for V.
 pub own_rows_in_order :
-    {rows cols : ℕ} {s : Settings} {w₀ w₀' w w' : Work} {l₀ l₀' l l' : List Float} {r r' : Report} →
+    {rows cols : ℕ} {s : Settings} {w₀ w₀' w w' : Work} {l₀ l₀' l l' : List Float} {r r' : OrderedAnswer} →
     OrderedAllowed rows cols s w₀ l₀ r w l →
     OrderedAllowed rows cols s w₀' l₀' r' w' l' →
     w₀.matrix ≡ w₀'.matrix →
-    (r.refusal.number ≡ 0) ⊎ (12 ≤ r.refusal.number) →
-    (r'.refusal.number ≡ 0) ⊎ (12 ≤ r'.refusal.number) →
-    (r ≡ r') × OwnRows rows cols w₀ w₀' w w' × (r.refusal.number ≡ 0 → l ≡ l')
+    ((ordered_report r).refusal.number ≡ 0) ⊎ (12 ≤ (ordered_report r).refusal.number) →
+    ((ordered_report r').refusal.number ≡ 0) ⊎ (12 ≤ (ordered_report r').refusal.number) →
+    (r ≡ r') × OwnRows rows cols w₀ w₀' w w' × ((ordered_report r).refusal.number ≡ 0 → l ≡ l')
 own_rows_in_order {rows} {cols} {s} {w₀} {w₀'} {w} {w'} {l₀} {l₀'} {l} {l'} {r} {r'} a a' m made made' =
     let p = a.promise in
     let p' = a'.promise in
     let e = told-run rows cols s w₀ l₀ r w l p made in
     let e' = told-run rows cols s w₀' l₀' r' w' l' p' made' in
     let k = orders_own binary64 rows cols (settings_of s) w₀ w₀' l₀ l₀' e e' m in (
-      report_one r r' (reports_of p ∙ k.report ∙ sym (reports_of p')),
+      ordered_report_one r r' (reports_of p ∙ k.report ∙ sym (reports_of p')),
       rw (lists_of p, lists_of p') k.held,
       λ z.
           let none = ap (λ (x : Report.Report). x.refusal.number) (sym (reports_of p)) ∙ z in
@@ -268,9 +265,9 @@ own_rows_in_order {rows} {cols} {s} {w₀} {w₀'} {w} {w'} {l₀} {l₀'} {l} {
 
 -- a row of zeros, of either sign, and NaNs stays one
 pub zero_row_in_order :
-    {rows cols : ℕ} {s : Settings} {w₀ w : Work} {l₀ l : List Float} {r : Report} →
+    {rows cols : ℕ} {s : Settings} {w₀ w : Work} {l₀ l : List Float} {r : OrderedAnswer} →
     OrderedAllowed rows cols s w₀ l₀ r w l →
-    (r.refusal.number ≡ 0) ⊎ (12 ≤ r.refusal.number) →
+    ((ordered_report r).refusal.number ≡ 0) ⊎ (12 ≤ (ordered_report r).refusal.number) →
     (side : Side) (i : ℕ) →
     i < size_of side rows cols →
     ZeroRow (row_at side rows cols i w₀) →
@@ -282,10 +279,10 @@ zero_row_in_order {rows} {cols} {s} {w₀} {w} {l₀} {l} {r} a made side i h z 
 -- Two stations' starting rows exchanged: the second call has the same report and list, their final rows are exchanged,
 -- and nothing else changes. The same for two passes.
 pub rows_exchanged_in_order :
-    {rows cols : ℕ} {s : Settings} {w₀ w w' : Work} {l₀ l l' : List Float} {r r' : Report} (side : Side) (i j : ℕ) →
+    {rows cols : ℕ} {s : Settings} {w₀ w w' : Work} {l₀ l l' : List Float} {r r' : OrderedAnswer} (side : Side) (i j : ℕ) →
     OrderedAllowed rows cols s w₀ l₀ r w l →
     OrderedAllowed rows cols s (exchanged side rows cols i j w₀) l₀ r' w' l' →
-    (r.refusal.number ≡ 0) ⊎ (12 ≤ r.refusal.number) →
+    ((ordered_report r).refusal.number ≡ 0) ⊎ (12 ≤ (ordered_report r).refusal.number) →
     i < size_of side rows cols →
     j < size_of side rows cols →
     (r' ≡ r) × (w' ≡ exchanged side rows cols i j w) × (l' ≡ l)
@@ -293,7 +290,7 @@ rows_exchanged_in_order {rows} {cols} {s} {w₀} {w} {w'} {l₀} {l} {l'} {r} {r
     let p = a.promise in
     let e = told-run rows cols s w₀ l₀ r w l p made in
     let q = a'.promise ∙ orders_exchanged binary64 rows cols (settings_of s) w₀ l₀ e side i j h g in (
-      report_one r' r (reports_of q ∙ sym (reports_of p)),
+      ordered_report_one r' r (reports_of q ∙ sym (reports_of p)),
       lists_of q ∙ ap (exchanged side rows cols i j) (sym (lists_of p)),
       values_of q ∙ sym (values_of p),
     )

@@ -15,11 +15,9 @@ use Rattle.method.proofs.Ordered.Numbers.{answers, ordered-before, ordered-after
 use Rattle.method.proofs.Ordered.Numbers.{sorts}
 use Rattle.method.proofs.Ordered.Laws as Laws
 use Rattle.checks.specs.declared.settings.Settings.{Settings}
-use Rattle.checks.specs.Values.{settings_of, refusal_in}
-use Rattle.svd.specs.declared.report.Report.{Report}
-use Rattle.svd.specs.declared.report.Word.TheVariants.{Settled}
-use Rattle.svd.specs.Values.{report_of, word_in, tally_of}
-use Rattle.svd.specs.Answers.{word_one}
+use Rattle.checks.specs.Values.{settings_of}
+use Rattle.svd.specs.Values.{Answer, report_of}
+use Rattle.order.specs.Values.{OrderedAnswer, ordered_report}
 
 -- report and lists, and the values, of an equation between two outcomes
 abbrev pub runs_of : {o o' : Ordered} → o ≡ o' → o.run ≡ o'.run
@@ -34,24 +32,24 @@ lists_of e = ap (λ (o : Ordered). o.run.held) e
 abbrev pub values_of : {o o' : Ordered} → o ≡ o' → o.values ≡ o'.values
 values_of e = ap (λ (o : Ordered). o.values) e
 
-module _ (rows cols : ℕ) (s : Settings) (w₀ : Work) (l₀ : List Float) (r : Report) (w : Work) (l : List Float)
-    (a : ordered_of (outcome_of (report_of r) w) l ≡ ordered_outcome binary64 rows cols (settings_of s) w₀ l₀) where
+module _ (rows cols : ℕ) (s : Settings) (w₀ : Work) (l₀ : List Float) (r : OrderedAnswer) (w : Work) (l : List Float)
+    (a : ordered_of (outcome_of (ordered_report r) w) l ≡ ordered_outcome binary64 rows cols (settings_of s) w₀ l₀) where
   -- the accumulating run
   abbrev ran : Outcome
   ran = accepted binary64 true rows cols (settings_of s) w₀
 
   -- number and place are the outcome's
-  pub told-number : r.refusal.number ≡ answers rows cols (settings_of s) w₀ l₀ binary64
+  pub told-number : (ordered_report r).refusal.number ≡ answers rows cols (settings_of s) w₀ l₀ binary64
   told-number = ap (λ (x : Report.Report). x.refusal.number) (reports_of a)
 
-  pub told-place : TruePlace true rows cols (settings_of s) w₀ (refusal_in r.refusal)
+  pub told-place : TruePlace true rows cols (settings_of s) w₀ (ordered_report r).refusal
   told-place =
       rw (ap (λ (x : Report.Report). x.refusal) (reports_of a)) (answer-place rows cols (settings_of s) w₀ l₀ binary64)
 
   -- refused before the run
   pub told-before :
-      ¬ (r.refusal.number ≡ 0) → r.refusal.number < 12 →
-      ordered_of (outcome_of (report_of r) w) l
+      ¬ ((ordered_report r).refusal.number ≡ 0) → (ordered_report r).refusal.number < 12 →
+      ordered_of (outcome_of (ordered_report r) w) l
       ≡ ordered_of (outcome_of (refused (ordered_refusal rows cols (settings_of s) w₀ l₀)) w₀) l₀
   told-before h low =
       a
@@ -60,8 +58,8 @@ module _ (rows cols : ℕ) (s : Settings) (w₀ : Work) (l₀ : List Float) (r :
 
   -- refused after it
   pub told-after :
-      12 ≤ r.refusal.number →
-      ordered_of (outcome_of (report_of r) w) l
+      12 ≤ (ordered_report r).refusal.number →
+      ordered_of (outcome_of (ordered_report r) w) l
       ≡ ordered_of (outcome_of (refused_after (found_after rows cols ran l₀) ran.report) ran.held) l₀
   told-after high =
       let high' = rw told-number at high in
@@ -69,20 +67,16 @@ module _ (rows cols : ℕ) (s : Settings) (w₀ : Work) (l₀ : List Float) (r :
       ∙ ran_on rows cols (settings_of s) w₀ l₀ binary64 (ordered-after rows cols (settings_of s) w₀ l₀ binary64 high')
       ∙ refused-after rows cols ran l₀ (ordered-found rows cols (settings_of s) w₀ l₀ binary64 high')
 
-  -- a report that says `settled` is the definition's
-  pub told-settled : Report.settled ≡ (report_of r).word → r.word ≡ Settled
-  told-settled e = word_one r.word Settled (sym e)
-
   -- where the run was made, nothing was refused before it
   pub told-run :
-      (r.refusal.number ≡ 0) ⊎ (12 ≤ r.refusal.number) →
+      ((ordered_report r).refusal.number ≡ 0) ⊎ (12 ≤ (ordered_report r).refusal.number) →
       (ordered_refusal rows cols (settings_of s) w₀ l₀).number ≡ 0
   told-run (inl z) = (sorts rows cols (settings_of s) w₀ l₀ binary64 (sym told-number ∙ z)).before
   told-run (inr high) = ordered-after rows cols (settings_of s) w₀ l₀ binary64 (rw told-number at high)
 
   -- ---- the accumulating call on the same input
 
-  module _ (r' : Report) (w' : Work)
+  module _ (r' : Answer) (w' : Work)
       (a' : outcome_of (report_of r') w' ≡ outcome binary64 true rows cols (settings_of s) w₀) where
     -- it refuses nothing where the ordered call is not refused before the run
     full_free : (ordered_refusal rows cols (settings_of s) w₀ l₀).number ≡ 0 → outcome_of (report_of r') w' ≡ ran
@@ -91,9 +85,9 @@ module _ (rows cols : ℕ) (s : Settings) (w₀ : Work) (l₀ : List Float) (r :
 
     -- so where the run was made word, counts and matrix are the same
     pub as_full :
-        (r.refusal.number ≡ 0) ⊎ (12 ≤ r.refusal.number) →
-        (word_in r.word ≡ word_in r'.word)
-        × (tally_of r.tally ≡ tally_of r'.tally)
+        ((ordered_report r).refusal.number ≡ 0) ⊎ (12 ≤ (ordered_report r).refusal.number) →
+        ((ordered_report r).word ≡ (report_of r').word)
+        × ((ordered_report r).tally ≡ (report_of r').tally)
         × (w.matrix ≡ w'.matrix)
     as_full h =
         let q = runs_of (a ∙ ran_on rows cols (settings_of s) w₀ l₀ binary64 (told-run h)) in

@@ -1,6 +1,6 @@
 -- For the proofs of the two functions of the call: what each way out answers, over plain values. Assumes nothing.
 use Rattle.std.specs.Prelude.{◌≡◌, refl, true, false, List, ℕ, ◌≤◌, length, take, Float}
-use Rattle.std.proofs.Common.{sym, ap, ◌∙◌, inl, inr, mul-le-mul_right, le_of_eq, le_trans, get_or-take}
+use Rattle.std.proofs.Common.{sym, ap, ◌∙◌, inl, inr, mul-le-mul_right, le_of_eq, le_trans, get_or-take, arith}
 use Rattle.std.specs.Float.{binary64}
 use Rattle.method.specs.Work.{Work, work}
 use Rattle.method.specs.Lengths.{SameLengths}
@@ -19,6 +19,10 @@ use Rattle.method.specs.Ordered.{Ordered, ordered_of, lent_checks, ordered_refus
 use Rattle.method.specs.Ordered.{ordered_outcome}
 use Rattle.method.proofs.Ordered.Ways.{lent_refused, lent_passed, refused-before, ran_on, refused-after, put_in_order_lem}
 use Rattle.method.proofs.Ordered.Numbers.{lent_fit, run-fine}
+use Rattle.checks.specs.Refused.{refused_some}
+use Rattle.order.specs.declared.ordered.Unordered.{Unordered}
+use Rattle.order.specs.declared.ordered.Unordered.TheVariants.{Refused, NotSettled, NotFinite}
+use Rattle.order.specs.Values.{unordered_report}
 use Rattle.order.specs.Room.{Room, Within, Fits, listed, signs_by, Moved, in_order, in_order_by}
 
 -- ---- sizes and room
@@ -164,3 +168,11 @@ module _ (rows cols : ℕ) (s : Settings) (w : Work) (l : List Float) {r : Refus
           v = k.v ∙ equal _ _ (λ n. f.lengths.1.1.0 (refl, n));
           list = f.list;
         }
+
+-- ---- why a run has no order
+
+-- every reason has a number
+pub unordered_some : (e : Unordered) → ¬ ((unordered_report e).refusal.number ≡ 0)
+unordered_some (Refused e) z = refused_some e z
+unordered_some (NotSettled r) z = omega (arith, z)
+unordered_some (NotFinite r) z = omega (arith, z)

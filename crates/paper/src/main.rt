@@ -4,118 +4,46 @@
 // has no room, and an output that cannot be written, are told on standard error.
 #![tactic(auto)]
 
-mod digits;
 mod page;
 mod reading;
 
-ghost use Rattle.std.specs.Prelude.{◌≡◌, length};
-
-use crate::page::put_page;
-use crate::reading::{Reading, read};
+use crate::page::Page;
+use crate::reading::read;
 use console::read_full;
 use std::io;
-use std::io::Write;
-use text::fields::find;
-use text::writing::{put, put_decimal};
 
 // Room for the input and one byte more: an input that fills it is too long.
-fn room() -> [u8; 65536]
-    ensures { 65536 ≡ length result }
-{
-    [0; 65536]
-}
+// Kept: read_full promises a count and no kind, so a full room stands for an input that is too long.
+const ROOM: usize = 65536;
 
-// Room for one page.
-fn blank() -> [u8; 8192]
-    ensures { 8192 ≡ length result }
-{
-    [0; 8192]
-}
-
-// Writes the first `end` bytes of text. False where that fails, or where they had no room.
-fn write_first<W: Write>(out: &mut W, text: &[u8], end: usize) -> bool {
-    if end <= text.len() {
-        out.write_all(&text[0..end]).is_ok()
-    } else {
-        false
-    }
-}
-
-// The line as it was given, the page of the number x that it says, and an empty line.
-fn print_page<W: Write>(out: &mut W, line: &[u8], x: f64) -> bool {
-    if out.write_all(line).is_err() {
-        return false;
-    }
-    let mut text = blank();
-    let a = put(&mut text, 0, b"\n");
-    let b = put_page(&mut text, a, x);
-    let c = put(&mut text, b, b"\n");
-    write_first(out, &text, c)
-}
-
-// What is wrong with a line, by its number.
-fn print_wrong<W: Write>(out: &mut W, number: u64, words: &[u8]) -> bool {
-    let mut text = blank();
-    let a = put(&mut text, 0, b"line ");
-    let b = put_decimal(&mut text, a, number);
-    let c = put(&mut text, b, b": ");
-    let d = put(&mut text, c, words);
-    let e = put(&mut text, d, b"\n");
-    write_first(out, &text, e)
-}
-
-// What there is to say of a line.
-fn print_line<W: Write>(out: &mut W, line: &[u8], number: u64) -> bool {
+// What there is to say of a line: the line as it was given, the page of the number that it says and an
+// empty line, or what is wrong with it.
+fn print_line(rt: &impl Print, number: u64, line: &[u8]) -> io::Result<()> {
     match read(line) {
-        Reading::Double(x) => print_page(out, line, x),
-        Reading::Empty => print_wrong(out, number, b"empty"),
-        Reading::NoNumber => {
-            print_wrong(out, number, b"neither a decimal number nor 16 hex digits")
-        }
-        Reading::TooLong => print_wrong(
-            out,
-            number,
-            b"more digits than a decimal is read exactly with; give the 16 hex digits",
-        ),
+        Ok((text, x)) => println!(rt; "{text}\n{}", Page(x)),
+        Err(fault) => println!(rt; "line {number}: {fault}"),
     }
 }
 
-// One line after the other; false as soon as one cannot be written.
-fn print_lines<W: Write>(out: &mut W, text: &[u8]) -> bool {
-    let mut number: u64 = 0;
-    let mut at = 0;
-    while at < text.len() {
-        let end = find(text, at, b'\n');
-        number += 1;
-        if !print_line(out, &text[at..end], number) {
-            return false;
-        }
-        at = end;
-        if at < text.len() {
-            at += 1;
-        }
+// One line after the other, the last with or without a line end.
+fn print_lines(rt: &impl Print, input: &[u8]) -> io::Result<()> {
+    for (number, line) in (1..).zip(input.split_inclusive(|byte| *byte == b'\n')) {
+        print_line(rt, number, line.strip_suffix(b"\n").unwrap_or(line))?;
     }
-    true
-}
-
-// Says on standard error what failed. Where that cannot be written either, nobody is left to be told.
-fn fail<W: Write>(err: &mut W, words: &[u8]) {
-    let _ = err.write_all(words);
+    Ok(())
 }
 
 fn main(rt: HostRuntime) -> io::Result<()> {
-    let mut text = room();
-    let n = read_full(&mut rt.stdin(), &mut text)?;
-    if n >= text.len() {
-        fail(
-            &mut rt.stderr(),
-            b"paper: the input is too long: at most 65535 bytes are read\n",
+    let mut input = [0; ROOM];
+    let n = read_full(&mut rt.stdin(), &mut input)?;
+    // Where standard error cannot be written either, nobody is left to be told.
+    if n == ROOM {
+        let _ = eprintln!(rt;
+            "paper: the input is too long: at most {} bytes are read",
+            ROOM - 1
         );
-    } else if !print_lines(&mut rt.stdout(), &text[0..n]) {
-        fail(
-            &mut rt.stderr(),
-            b"paper: the output could not be written\n",
-        );
+    } else if print_lines(&rt, &input[..n]).is_err() {
+        let _ = eprintln!(rt; "paper: the output could not be written");
     }
     Ok(())
 }

@@ -1,16 +1,50 @@
 -- Any two answers that the promise of `pick` allows are equal. Assumes nothing.
-use Rattle.std.specs.Prelude.{◌≡◌, ℕ}
-use Rattle.std.proofs.Common.{sym, ap, ◌∙◌}
+use Rattle.std.specs.Prelude.{◌≡◌, refl, Bool, true, false, ℕ, Result, Ok, Err}
+use Rattle.std.proofs.Common.{sym, ap, ◌∙◌, arith}
 use Rattle.std.specs.Float.{binary64}
 use Rattle.method.specs.Profiles as Profiles
-use Rattle.method.specs.Profiles.{picked}
+use Rattle.method.specs.Profiles.{no_profile, picked}
+use Rattle.method.proofs.Profiles.Table.{picked-there, picked_none}
+use Rattle.checks.specs.declared.refusal.Refusal.{Refusal}
+use Rattle.checks.specs.declared.refusal.Refusal.TheVariants.{NoSize, TooLarge, TableLength, ULength, VLength, OverLimit, UnfitBounds, BadReadings, NoProfile, ListLength}
+use Rattle.checks.specs.declared.settings.Settings.{Settings}
+use Rattle.checks.specs.Values.{refusal_in}
+use Rattle.checks.specs.Refused.{refused_some}
 use Rattle.checks.specs.Answers.{from_settings}
-use Rattle.profiles.specs.declared.Picked.{Picked}
 use Rattle.profiles.specs.Values.{picked_in}
 
--- what was picked is told by the method's
-abbrev pub from_picked : Profiles.Picked → Picked
-from_picked p = record { number = p.number; settings = from_settings p.settings }
+-- by 10 there is no such profile
+by_ten : (e : Refusal) → (refusal_in e).number ≡ 10 → e ≡ NoProfile
+by_ten NoSize z = absurd (omega (arith, z))
+by_ten TooLarge z = absurd (omega (arith, z))
+by_ten TableLength z = absurd (omega (arith, z))
+by_ten ULength z = absurd (omega (arith, z))
+by_ten VLength z = absurd (omega (arith, z))
+by_ten OverLimit z = absurd (omega (arith, z))
+by_ten UnfitBounds z = absurd (omega (arith, z))
+by_ten (BadReadings p) z = absurd (omega (arith, z))
+by_ten NoProfile z = refl
+by_ten ListLength z = absurd (omega (arith, z))
 
-pub pick-one : (k : ℕ) (p p' : Picked) → picked_in p ≡ picked binary64 k → picked_in p' ≡ picked binary64 k → p ≡ p'
-pick-one k p p' e e' = ap from_picked (e ∙ sym e')
+-- a number that has a profile picks its settings
+pub picks : (k : ℕ) (p : Result Settings Refusal) → no_profile k ≡ false → picked_in p ≡ picked binary64 k → p ≡ Ok (from_settings (picked binary64 k).settings)
+picks k (Ok s) n e = ap (λ (x : Profiles.Picked). Ok (from_settings x.settings)) e
+picks k (Err r) n e = absurd (refused_some r (ap (λ (x : Profiles.Picked). x.number) (e ∙ picked-there binary64 k n)))
+
+-- one that has none is refused by 10
+pub refused_by_ten : (k : ℕ) (e : Refusal) → no_profile k ≡ true → picked_in (Err e) ≡ picked binary64 k → e ≡ NoProfile
+refused_by_ten k e n d = by_ten e (ap (λ (x : Profiles.Picked). x.number) (d ∙ picked_none binary64 k n))
+
+pub picks_none : (k : ℕ) (p : Result Settings Refusal) → no_profile k ≡ true → picked_in p ≡ picked binary64 k → p ≡ Err NoProfile
+picks_none k (Ok s) n e =
+    let z : 0 ≡ 10 = ap (λ (x : Profiles.Picked). x.number) (e ∙ picked_none binary64 k n) in absurd (omega (arith, z))
+picks_none k (Err r) n e = ap Err (refused_by_ten k r n e)
+
+pub pick-one :
+    (k : ℕ) (p p' : Result Settings Refusal) →
+    picked_in p ≡ picked binary64 k → picked_in p' ≡ picked binary64 k → p ≡ p'
+pick-one k p p' e e' = go (no_profile k) refl
+  where
+    go : (b : Bool) → no_profile k ≡ b → p ≡ p'
+    go true n = picks_none k p n e ∙ sym (picks_none k p' n e')
+    go false n = picks k p n e ∙ sym (picks k p' n e')

@@ -6,10 +6,12 @@ ghost use Rattle.std.specs.Float.{binary64};
 ghost use Rattle.method.specs.Profiles.{no_profile, picked};
 ghost use Rattle.profiles.specs.Values.{picked_in};
 
+use checks::refusal::Refusal;
 use checks::settings::Settings;
 
 // What an instrument is given; the floor is the default one for all.
-#[derive(Clone, Copy)]
+// Kept: not Settings, since `Profile` of method has these four, and one floor for all.
+#[derive(Clone, Copy, Debug, PartialEq)]
 struct Profile {
     limit: usize,
     credit: usize,
@@ -18,6 +20,8 @@ struct Profile {
 }
 
 // The profiles, from number 1 on.
+// Kept: a profile goes by its number, as the C caller and the definition `picked` have it.
+// Kept: the first has the defaults' numbers, but as its own, as the definition `profiles` writes them.
 const PROFILES: [Profile; 4] = [
     // 1, vane.
     Profile {
@@ -49,46 +53,28 @@ const PROFILES: [Profile; 4] = [
     },
 ];
 
-// What a number picks: 0 and the settings of that profile, or 10 and settings of zeros where there is no
-// such profile.
-#[derive(Clone, Copy)]
-pub struct Picked {
-    pub number: usize,
-    pub settings: Settings,
-}
-
 // There is no profile of this number: they are counted from 1.
+// Kept: a test of its own, as the definition `no_profile` is: `PROFILES.get` would say it a second way.
 fn no_profile(profile: usize) -> bool
     ensures { result ≡ no_profile profile }
 {
-    profile == 0 || profile > 4
+    profile == 0 || profile > PROFILES.len()
 }
 
-// The profile of this number.
-pub fn pick(profile: usize) -> Picked
+// The settings of the profile of this number.
+// Kept: no From<Profile>, which would be called here alone and say the same five lines.
+pub fn pick(profile: usize) -> Result<Settings, Refusal>
     ensures { picked_in result ≡ picked binary64 profile }
 {
     if no_profile(profile) {
-        return Picked {
-            number: 10,
-            settings: Settings {
-                limit: 0,
-                credit: 0,
-                tolerance: 0.0,
-                absolute: 0.0,
-                floor: 0.0,
-            },
-        };
+        return Err(Refusal::NoProfile);
     }
     let entry = PROFILES[profile - 1];
-    Picked {
-        number: 0,
-        settings: Settings {
-            limit: entry.limit,
-            credit: entry.credit,
-            tolerance: entry.tolerance,
-            absolute: entry.absolute,
-            floor: Settings::FLOOR,
-        },
-    }
+    Ok(Settings {
+        limit: entry.limit,
+        credit: entry.credit,
+        tolerance: entry.tolerance,
+        absolute: entry.absolute,
+        floor: Settings::FLOOR,
+    })
 }

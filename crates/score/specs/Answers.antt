@@ -10,3 +10,7 @@ new_one r r' e e' = e ∙ sym e'
 pub counted-one :
     (s : Score) (wrong agrees : Bool) (r r' : Score) → r ≡ counted s wrong agrees → r' ≡ counted s wrong agrees → r ≡ r'
 counted-one s wrong agrees r r' e e' = e ∙ sym e'
+
+pub judge-one :
+    (s : Score) (wrong agrees : Bool) (r r' : Score) → r ≡ counted s wrong agrees → r' ≡ counted s wrong agrees → r ≡ r'
+judge-one = counted-one

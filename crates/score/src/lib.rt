@@ -3,9 +3,12 @@
 #![tactic(auto)]
 
 ghost use Rattle.std.specs.Prelude.{◌≡◌};
-ghost use Rattle.score.specs.Counts.{more as oneMore, none, counted};
+ghost use Rattle.score.specs.Counts.{none, counted};
 
-#[derive(Clone, Copy)]
+use std::io::Write;
+use std::{fmt, io};
+
+#[derive(Clone, Copy, Debug, Default, PartialEq, Eq)]
 pub struct Score {
     // Rows that are right, and those of them that differ.
     pub right: u64,
@@ -15,43 +18,61 @@ pub struct Score {
     pub found: u64,
 }
 
-// One more, but no more than the largest number.
-fn more(n: u64) -> u64
-    ensures { result ≡ oneMore n }
-{
-    if n < u64::MAX { n + 1 } else { n }
-}
-
 impl Score {
     // Of no rows.
     pub fn new() -> Score
         ensures { result ≡ none }
     {
-        Score {
-            right: 0,
-            differ: 0,
-            wrong: 0,
-            found: 0,
-        }
+        Score::default()
     }
 
-    // With one row more: whether it is wrong on purpose, and whether it agrees.
+    // With one row more: whether it is wrong on purpose, and whether it agrees. No count goes beyond
+    // the largest number.
+    // Kept: two flags, as the definition `counted` takes them: each of the four pairs counts something else.
     pub fn counted(mut self, wrong: bool, agrees: bool) -> Score
         ensures { result ≡ counted self wrong agrees }
     {
-        if wrong {
-            self.wrong = more(self.wrong);
-            if agrees {
-                return self;
+        match (wrong, agrees) {
+            (false, true) => self.right = self.right.saturating_add(1),
+            (false, false) => {
+                self.right = self.right.saturating_add(1);
+                self.differ = self.differ.saturating_add(1);
             }
-            self.found = more(self.found);
-            return self;
+            (true, true) => self.wrong = self.wrong.saturating_add(1),
+            (true, false) => {
+                self.wrong = self.wrong.saturating_add(1);
+                self.found = self.found.saturating_add(1);
+            }
         }
-        self.right = more(self.right);
-        if agrees {
-            return self;
-        }
-        self.differ = more(self.differ);
         self
+    }
+
+    // Counts one row more, and prints its number, among the right or the wrong ones, where it is not as
+    // told.
+    pub fn judge<W: Write>(&mut self, out: &mut W, wrong: bool, agrees: bool) -> io::Result<()>
+        ensures { self.new ≡ counted self.old wrong agrees }
+    {
+        *self = self.counted(wrong, agrees);
+        match (wrong, agrees) {
+            (true, true) => writeln!(out, "{} is wrong on purpose and was not found", self.wrong),
+            (false, false) => writeln!(out, "{} differs", self.right),
+            _ => Ok(()),
+        }
+    }
+}
+
+// As in "0 differ; 5 wrong on purpose, 5 found".
+impl fmt::Display for Score {
+    fn fmt<W: fmt::Write>(&self, f: &mut fmt::Formatter<W>) -> fmt::Result {
+        let Score {
+            differ,
+            wrong,
+            found,
+            ..
+        } = *self;
+        write!(
+            f,
+            "{differ} differ; {wrong} wrong on purpose, {found} found"
+        )
     }
 }

@@ -1,2 +1,2 @@
 -- What the contracts of `split` cite.
-pub mod Reading
+pub mod Printing

@@ -2,55 +2,45 @@
 // the input cannot be read, nothing is printed; what failed is said on standard error.
 #![tactic(auto)]
 
-ghost use Rattle.split.specs.Reading.{ReadAll};
-ghost use Rattle.std.specs.Prelude.{◌≡◌, length};
+ghost use Rattle.split.specs.Printing.{Prints};
+ghost use Rattle.std.specs.Prelude.{◌≡◌, OnOk, Err};
 
 use console::read_full;
+use std::fmt;
 use std::io::{Read, Write};
-use survey::{ENOUGH, ROOM};
+use survey::{ENOUGH, ROOM, split_input};
 
-// What was read: how many bytes, which are all of the input or fill the room for them.
+// What failed.
 #[derive(Clone, Copy)]
-enum Input {
-    Read(usize),
-    Failed,
+enum Failure {
+    Input,
+    Output,
 }
 
-// Room for what is printed. The `ensures` gives only the length.
-fn blank() -> [u8; ROOM]
-    ensures { 314000 ≡ length result }
-{
-    [0; ROOM]
-}
-
-// Reads until text is full, the input ends or a read fails.
-fn read_input<R: Read>(input: &mut R, text: &mut [u8]) -> Input
-    ensures { ReadAll (R.remaining input.old) (R.remaining input.new) result text.new }
-{
-    match read_full(input, text) {
-        Ok(n) => Input::Read(n),
-        Err(_) => Input::Failed,
+impl fmt::Display for Failure {
+    fn fmt<W: fmt::Write>(&self, f: &mut fmt::Formatter<W>) -> fmt::Result {
+        match self {
+            Failure::Input => write!(f, "the input could not be read"),
+            Failure::Output => write!(f, "the output could not be written"),
+        }
     }
 }
 
-// Says on standard error what failed. Where that cannot be written either, nobody is left to be told.
-fn fail<W: Write>(err: &mut W, words: &[u8]) {
-    let _ = err.write_all(words);
+// Reads the input to its end, or as much of it as settles what is printed, and prints that.
+fn split<R: Read, W: Write>(input: &mut R, output: &mut W) -> Result<(), Failure>
+    ensures ok { OnOk result (Prints (R.remaining input.old) (W.contents output.old) (W.contents output.new)) }
+    ensures unread { result ≡ Err Failure.Input → W.contents output.new ≡ W.contents output.old }
+{
+    let mut text = [0; ENOUGH];
+    let n = read_full(input, &mut text).map_err(|_| Failure::Input)?;
+    let mut out = [0; ROOM];
+    let k = split_input(&text, n, &mut out);
+    output.write_all(&out[..k]).map_err(|_| Failure::Output)
 }
 
 fn main(rt: HostRuntime) {
-    let mut text = [0u8; ENOUGH];
-    match read_input(&mut rt.stdin(), &mut text) {
-        Input::Read(n) => {
-            let mut out = blank();
-            let k = survey::split_input(&text, n, &mut out);
-            if rt.write_all(&out[..k]).is_err() {
-                fail(
-                    &mut rt.stderr(),
-                    b"split: the output could not be written\n",
-                );
-            }
-        }
-        Input::Failed => fail(&mut rt.stderr(), b"split: the input could not be read\n"),
+    if let Err(failure) = split(&mut rt.stdin(), &mut rt.stdout()) {
+        // Where that cannot be written either, nobody is left to be told.
+        let _ = writeln!(rt.stderr(), "split: {failure}");
     }
 }

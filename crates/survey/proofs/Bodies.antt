@@ -1,5 +1,5 @@
 -- Laws of the bodies, as the proofs of the code use them. Assumes nothing.
-use Rattle.std.specs.Prelude.{◌≡◌, refl, ℕ, zero, suc, ◌+◌, ◌-◌, ◌*◌, ◌<◌, ◌≤◌, Float, length, take, drop}
+use Rattle.std.specs.Prelude.{◌≡◌, refl, ℕ, zero, suc, ◌+◌, ◌-◌, ◌*◌, ◌<◌, ◌≤◌, Float, length}
 use Rattle.std.proofs.Common.{sym, ap, ◌∙◌, suc-mul}
 use Rattle.std.proofs.Math.Option.{Option, none, some}
 use mathlib.Core.List.{List, [], ◌∷◌, ◌++◌}
@@ -7,10 +7,9 @@ use native.Mathlib.Omega.{arith}
 use Rattle.std.specs.Float.{binary64}
 use Rattle.std.specs.Float.Ieee.{of_bits}
 use Rattle.std.proofs.Math.Seq.{sets}
-use Rattle.text.specs.Text.{Bytes, LF, space, ◌>>=◌, cut, pattern, found}
+use Rattle.text.specs.Text.{Bytes, LF, space, ◌>>=◌, cut, pattern}
 use Rattle.text.proofs.Options.{bind_some}
 use Rattle.text.proofs.Digits.{sets_append}
-use Rattle.text.proofs.Cuts.{cut-some, cut-none}
 use Rattle.survey.specs.Form.{row_line, Got, malformed, got, line, and_then, body}
 use Rattle.survey.specs.Code.{row_stored, body_into, body_stored}
 use Rattle.survey.proofs.Found.{short-some, short_none}
@@ -18,20 +17,19 @@ use Rattle.survey.proofs.LineSize.{row_short, line-size}
 
 -- ---- a line by its rule
 
-module _ {A : Type 0} (rule : Bytes → Option A) (n : ℕ) (t : Bytes) (p e : ℕ) (f : e ≡ found LF p t) where
-  pub line-none : e ≡ length t → line rule n (drop p t) ≡ malformed n
+module _ {A : Type 0} (rule : Bytes → Option A) (n : ℕ) (t : Bytes) where
+  pub line-none : cut LF t ≡ none → line rule n t ≡ malformed n
   unfolding line
-  line-none g = rw (line, cut-none LF t p e f g)
+  line-none g = rw (line, g)
 
-  module _ (h : e < length t) where
-    pub line-bad : rule (take (e - p) (drop p t)) ≡ none → line rule n (drop p t) ≡ malformed n
+  module _ (l r : Bytes) (h : cut LF t ≡ some (l, r)) where
+    pub line-bad : rule l ≡ none → line rule n t ≡ malformed n
     unfolding line
-    line-bad g = rw (line, cut-some LF t p e f h, short_none rule (take (e - p) (drop p t)) g)
+    line-bad g = rw (line, h, short_none rule l g)
 
-    pub line-got : (a : A) → rule (take (e - p) (drop p t)) ≡ some a → length (take (e - p) (drop p t)) ≤ 815
-        → line rule n (drop p t) ≡ got a (n + 1) (drop (e + 1) t)
+    pub line-got : (a : A) → rule l ≡ some a → length l ≤ 815 → line rule n t ≡ got a (n + 1) r
     unfolding line
-    line-got a g s = rw (line, cut-some LF t p e f h, short-some rule (take (e - p) (drop p t)) a g s)
+    line-got a g s = rw (line, h, short-some rule l a g s)
 
 -- ---- a row
 
@@ -94,34 +92,30 @@ body-stored (suc r) c n t m at = go (line (row_line c) n t) refl (λ n₁ t₁ m
         ih n₁ t₁ (sets m at xs) ∙ tail xs (row_length c q.0 xs q.1) (body r c n₁ t₁)
 
 -- a turn of the code's loop, j rows done
-module _ (rows c n j : ℕ) (t : Bytes) (p e : ℕ) (m : List Float) (k : ℕ)
-    (f : e ≡ found LF p t) (h : j < rows) (w : c < 48) where
+module _ (rows c n j : ℕ) (t : Bytes) (m : List Float) (k : ℕ) (h : j < rows) where
   less : rows - j ≡ suc (rows - (j + 1))
   less = omega arith
 
-  pub body-none : e ≡ length t → body_into (rows - j) c (n + j) (drop p t) m k ≡ malformed (n + j)
+  pub body-none : cut LF t ≡ none → malformed n ≡ body_into (rows - j) c n t m k
   unfolding body_into and_then
-  body-none g = rw (less, line-none (row_line c) (n + j) t p e f g)
+  body-none g = rw (less, line-none (row_line c) n t g)
 
-  module _ (g : e < length t) where
-    pub body-bad : none ≡ row_stored c (take (e - p) (drop p t)) m k
-        → body_into (rows - j) c (n + j) (drop p t) m k ≡ malformed (n + j)
+  module _ (l r : Bytes) (g : cut LF t ≡ some (l, r)) where
+    pub body-bad : none ≡ row_stored c l m k → malformed n ≡ body_into (rows - j) c n t m k
     unfolding body_into and_then
-    body-bad b = rw (less, line-bad (row_line c) (n + j) t p e f g (row_no c (take (e - p) (drop p t)) m k b))
+    body-bad b = rw (less, line-bad (row_line c) n t l r g (row_no c l m k b))
 
-    pub body-next : (m₁ : List Float) → some m₁ ≡ row_stored c (take (e - p) (drop p t)) m k
-        → body_into (rows - j) c (n + j) (drop p t) m k
-        ≡ body_into (rows - (j + 1)) c (n + (j + 1)) (drop (e + 1) t) m₁ (k + (c + 1))
+    pub body-next : (m₁ : List Float) → c < 48 → some m₁ ≡ row_stored c l m k
+        → body_into (rows - (j + 1)) c (n + 1) r m₁ (k + (c + 1)) ≡ body_into (rows - j) c n t m k
     unfolding body_into and_then
-    body-next m₁ b = let q = row_yes c (take (e - p) (drop p t)) m m₁ k b in more q.0 q.1 q.2
+    body-next m₁ w b = let q = row_yes c l m m₁ k b in more q.0 q.1 q.2
       where
-        more : (xs : List Float) → row_line c (take (e - p) (drop p t)) ≡ some xs → m₁ ≡ sets m k xs
-            → body_into (rows - j) c (n + j) (drop p t) m k
-            ≡ body_into (rows - (j + 1)) c (n + (j + 1)) (drop (e + 1) t) m₁ (k + (c + 1))
-        more xs x y = let z : n + j + 1 ≡ n + (j + 1) = omega arith in rw (y, less, line-got (row_line c) (n + j) t p e f g xs x (row_short c (take (e - p) (drop p t)) xs w x), z)
+        more : (xs : List Float) → row_line c l ≡ some xs → m₁ ≡ sets m k xs
+            → body_into (rows - (j + 1)) c (n + 1) r m₁ (k + (c + 1)) ≡ body_into (rows - j) c n t m k
+        more xs x y = rw (y, less, line-got (row_line c) n t l r g xs x (row_short c l xs w x))
 
 pub body_end : (rows c n j : ℕ) (t : Bytes) (m : List Float) (k : ℕ) → j ≡ rows
-    → body_into (rows - j) c n t m k ≡ got m n t
+    → got m n t ≡ body_into (rows - j) c n t m k
 unfolding body_into
 body_end rows c n j t m k e = let z : rows - rows ≡ 0 = omega arith in rw (e, z)
 

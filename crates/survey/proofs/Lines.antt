@@ -1,47 +1,32 @@
 -- Laws of the lines, as the proofs of the code use them. Assumes nothing.
-use Rattle.std.specs.Prelude.{◌≡◌, refl, Bool, true, false, not, List, [], ◌∷◌, Float, length, get_or, set, take, drop}
-use Rattle.std.proofs.Common.{◌∙◌, drop-cons, length-take-le, get_or-take}
+use Rattle.std.specs.Prelude.{◌≡◌, refl, Bool, true, false, not, ◌||◌, List, [], ◌∷◌, Float, eqb, set}
+use Rattle.std.specs.List.{list_any}
+use Rattle.std.proofs.Common.{◌∙◌}
 use Rattle.std.proofs.Math.Option.{Option, none, some}
-use Prim.Native.Nat.{ℕ, zero, suc, ◌+◌, ◌-◌, ◌<◌, ◌≤◌}
-use Rattle.std.proofs.Math.Numerals.{add-one}
+use Prim.Native.Nat.{ℕ, zero, suc, ◌+◌, ◌-◌, ◌<◌}
 use native.Mathlib.Omega.{arith}
-use borrow.Author.Tests.{eq-eqb, ne_eqb}
 use Rattle.std.specs.Float.{binary64}
 use Rattle.std.specs.Float.Ieee.{of_bits}
 use Rattle.std.proofs.lemmas.List.Edits.{sets}
-use Rattle.std.proofs.Math.Seq.{drop-length}
 use Rattle.survey.specs.declared.reading.Entry.{Entry}
-use Rattle.text.specs.Text.{Bytes, space, ◌>>=◌, when, cut, number, pattern, found}
-use Rattle.text.specs.Code.{or_zero}
+use Rattle.text.specs.Text.{Bytes, space, ◌>>=◌, when, cut, number, pattern}
 use Rattle.survey.specs.Form.{named, entry_line, row_line}
-use Rattle.survey.specs.Code.{or_none, row_into, row_stored}
-use Rattle.text.proofs.Cuts.{cut-none, cut-some, rest_of}
-use Rattle.text.proofs.NumeralLaws.{number-pos}
+use Rattle.survey.specs.Code.{row_into, row_stored}
 
--- ---- an id among the first k entries
+-- ---- an id among the entries
 abbrev pub zeros : Entry
 zeros = record { id = 0; rows = 0; cols = 0 }
 
-module _ (id : ℕ) (es : List Entry) (k i : ℕ) (h : i < k) (n : k ≤ length es) where
-  inside : i < length (take k es)
-  inside = rw length-take-le (omega arith)
-
-  pub named_here : (get_or es i zeros).id ≡ id → named id (drop i (take k es)) ≡ true
-  unfolding named
-  named_here e =
-      let g : (get_or (take k es) i zeros).id ≡ id = rw (get_or-take k es i zeros h) e in
-      rw (drop-cons (take k es) i zeros inside, named, eq-eqb (get_or (take k es) i zeros).id id g)
-
-  pub named-next : ((get_or es i zeros).id ≡ id → ⊥)
-      → named id (drop i (take k es)) ≡ named id (drop (i + 1) (take k es))
-  unfolding named
-  named-next e =
-      let g : (get_or (take k es) i zeros).id ≡ id → ⊥ = rw (get_or-take k es i zeros h) e in
-      rw (drop-cons (take k es) i zeros inside, named, ne_eqb (get_or (take k es) i zeros).id id g, add-one i)
-
-pub named_end : (id : ℕ) (es : List Entry) (k i : ℕ) → k ≤ length es → i ≡ k → named id (drop i (take k es)) ≡ false
+-- the library's search is that search
+pub named-any : (id : ℕ) (es : List Entry) → list_any (λ e. eqb e.id id) es ≡ named id es
 unfolding named
-named_end id es k i n e = let z : i ≡ length (take k es) = rw length-take-le e in rw (z, drop-length)
+named-any id [] = refl
+named-any id (e ∷ es) = go (eqb e.id id) refl (named-any id es)
+  where
+    go : (x : Bool) → eqb e.id id ≡ x → list_any (λ e. eqb e.id id) es ≡ named id es
+        → (x || list_any (λ e. eqb e.id id) es) ≡ named id (e ∷ es)
+    go true x ih = rw (named, x)
+    go false x ih = rw (named, x) ih
 
 -- ---- a line of readings
 
@@ -77,85 +62,68 @@ row_stored_lem (suc n) l m at = go (cut space l) (λ l₁ m₁. row_stored_lem n
     go none ih = refl
     go (some q) ih = mid (pattern q.0) q.1 ih
 
-module _ (l : Bytes) (c k p e at : ℕ) (m : List Float) (f : e ≡ found space p l) (h : k < c) where
-  pub row_none : e ≡ length l → row_into (c - k) (drop p l) m (at + k) ≡ none
-  unfolding row_into ◌>>=◌
-  row_none g = let z : c - k ≡ suc (c - (k + 1)) = omega arith in rw (z, cut-none space l p e f g)
+module _ (l : Bytes) (c k at : ℕ) (m : List Float) where
+  module _ (h : k < c) where
+    less : c - k ≡ suc (c - (k + 1))
+    less = omega arith
 
-  pub row_bad : e < length l → pattern (take (e - p) (drop p l)) ≡ none → row_into (c - k) (drop p l) m (at + k) ≡ none
-  unfolding row_into ◌>>=◌
-  row_bad g b = let z : c - k ≡ suc (c - (k + 1)) = omega arith in rw (z, cut-some space l p e f g, b)
+    pub row_none : none ≡ cut space l → none ≡ row_into (c - k) l m (at + k)
+    unfolding row_into ◌>>=◌
+    row_none e = rw (less, ← e)
 
-  pub row_next : (b : ℕ) → e < length l → pattern (take (e - p) (drop p l)) ≡ some b
-      → row_into (c - k) (drop p l) m (at + k)
-      ≡ row_into (c - (k + 1)) (drop (e + 1) l) (set m (at + k) (of_bits binary64 b)) (at + (k + 1))
-  unfolding row_into ◌>>=◌
-  row_next b g q =
-      let z : c - k ≡ suc (c - (k + 1)) = omega arith in
-      let y : suc (at + k) ≡ at + (k + 1) = omega arith in
-      rw (z, cut-some space l p e f g, q, y)
+    module _ (a r : Bytes) (g : some (a, r) ≡ cut space l) where
+      pub row_bad : none ≡ pattern a → none ≡ row_into (c - k) l m (at + k)
+      unfolding row_into ◌>>=◌
+      row_bad e = rw (less, ← g, ← e)
 
-module _ (l : Bytes) (c k p at : ℕ) (m : List Float) (h : k ≡ c) where
-  pub row_last : (b : ℕ) → pattern (take (length l - p) (drop p l)) ≡ some b
-      → row_into (c - k) (drop p l) m (at + k) ≡ some (set m (at + c) (of_bits binary64 b))
-  unfolding row_into ◌>>=◌
-  row_last b q = let z : c - c ≡ 0 = omega arith in let r : pattern (drop p l) ≡ some b = rw rest_of at q in rw (h, z, r)
+      pub row_next : (b : ℕ) → some b ≡ pattern a
+          → row_into (c - (k + 1)) r (set m (at + k) (of_bits binary64 b)) (at + (k + 1)) ≡ row_into (c - k) l m (at + k)
+      unfolding row_into ◌>>=◌
+      row_next b e = let y : suc (at + k) ≡ at + (k + 1) = omega arith in rw (less, ← g, ← e, y)
 
-  pub row_last_bad : pattern (take (length l - p) (drop p l)) ≡ none → row_into (c - k) (drop p l) m (at + k) ≡ none
-  unfolding row_into ◌>>=◌
-  row_last_bad q = let z : c - c ≡ 0 = omega arith in let r : pattern (drop p l) ≡ none = rw rest_of at q in rw (h, z, r)
+  module _ (h : k ≡ c) where
+    none-left : c - c ≡ 0
+    none-left = omega arith
+
+    pub row_last : (b : ℕ) → some b ≡ pattern l
+        → some (set m (at + c) (of_bits binary64 b)) ≡ row_into (c - k) l m (at + k)
+    unfolding row_into ◌>>=◌
+    row_last b e = rw (h, none-left, ← e)
+
+    pub row_last_bad : none ≡ pattern l → none ≡ row_into (c - k) l m (at + k)
+    unfolding row_into ◌>>=◌
+    row_last_bad e = rw (h, none-left, ← e)
 
 -- ---- a line of the contents
 
-module _ (es : List Entry) (l : Bytes) (a : ℕ) (fa : a ≡ found space 0 l) where
-  pub entry_none : a ≡ length l → zeros ≡ or_none (entry_line es l)
+-- the code's ways out
+module _ (es : List Entry) (l : Bytes) where
+  pub entry_none : none ≡ cut space l → none ≡ entry_line es l
   unfolding entry_line ◌>>=◌
-  entry_none g = rw (cut-none space l 0 a fa g)
+  entry_none e = rw (← e)
 
-  module _ (ha : a < length l) (b : ℕ) (fb : b ≡ found space (a + 1) l) where
-    pub entry_none_2 : b ≡ length l → zeros ≡ or_none (entry_line es l)
+  module _ (a r : Bytes) (g : some (a, r) ≡ cut space l) where
+    pub entry_none_2 : none ≡ cut space r → none ≡ entry_line es l
     unfolding entry_line ◌>>=◌
-    entry_none_2 g = rw (cut-some space l 0 a fa ha, cut-none space l (a + 1) b fb g)
+    entry_none_2 e = rw (← g, ← e)
 
-    module _ (hb : b < length l) (i : ℕ) (ei : i ≡ or_zero (number 65535 (take a l))) where
-      first : cut space l ≡ some (take a l, drop (a + 1) l)
-      first = let z : a - 0 ≡ a = omega arith in rw z at (cut-some space l 0 a fa ha)
-
-      pub entry_id : i ≡ 0 → zeros ≡ or_none (entry_line es l)
+    module _ (b c : Bytes) (h : some (b, c) ≡ cut space r) where
+      pub entry_id : none ≡ number 65535 a → none ≡ entry_line es l
       unfolding entry_line ◌>>=◌
-      entry_id g = rw (first, cut-some space l (a + 1) b fb hb, (number-pos 65535 (take a l) i ei).0 g)
+      entry_id e = rw (← g, ← h, ← e)
 
-      module _ (gi : i ≡ 0 → ⊥) (r : ℕ) (er : r ≡ or_zero (number 48 (take (b - (a + 1)) (drop (a + 1) l)))) where
-        pub entry_rows : r ≡ 0 → zeros ≡ or_none (entry_line es l)
+      module _ (i : ℕ) (ei : some i ≡ number 65535 a) where
+        pub entry_rows : none ≡ number 48 b → none ≡ entry_line es l
         unfolding entry_line ◌>>=◌
-        entry_rows g = rw (first, cut-some space l (a + 1) b fb hb, (number-pos 65535 (take a l) i ei).1 gi, (number-pos 48 (take (b - (a + 1)) (drop (a + 1) l)) r er).0 g)
+        entry_rows e = rw (← g, ← h, ← ei, ← e)
 
-        module _ (gr : r ≡ 0 → ⊥) (k : ℕ) (ek : k ≡ or_zero (number 48 (take (length l - (b + 1)) (drop (b + 1) l)))) where
-          last : k ≡ or_zero (number 48 (drop (b + 1) l))
-          last = rw rest_of at ek
-
-          pub entry_cols : k ≡ 0 → zeros ≡ or_none (entry_line es l)
+        module _ (n : ℕ) (er : some n ≡ number 48 b) where
+          pub entry_cols : none ≡ number 48 c → none ≡ entry_line es l
           unfolding entry_line ◌>>=◌
-          entry_cols g = rw (
-            first,
-            cut-some space l (a + 1) b fb hb,
-            (number-pos 65535 (take a l) i ei).1 gi,
-            (number-pos 48 (take (b - (a + 1)) (drop (a + 1) l)) r er).1 gr,
-            (number-pos 48 (drop (b + 1) l) k last).0 g,
-          )
+          entry_cols e = rw (← g, ← h, ← ei, ← er, ← e)
 
-          module _ (gk : k ≡ 0 → ⊥) where
-            read : entry_line es l ≡ when (not (named i es)) (record { id = i; rows = r; cols = k })
-            unfolding entry_line ◌>>=◌
-            read = rw (
-              first,
-              cut-some space l (a + 1) b fb hb,
-              (number-pos 65535 (take a l) i ei).1 gi,
-              (number-pos 48 (take (b - (a + 1)) (drop (a + 1) l)) r er).1 gr,
-              (number-pos 48 (drop (b + 1) l) k last).1 gk,
-            )
-
-            -- the last two ways out: x says whether the id is an earlier entry's
-            pub entry_last : (x : Bool) → x ≡ named i es
-                → or_none (when (not x) (record { id = i; rows = r; cols = k })) ≡ or_none (entry_line es l)
-            entry_last x e = rw (read, e)
+          -- x says whether the id is an earlier entry's
+          pub entry_last : (k : ℕ) → some k ≡ number 48 c → (x : Bool) → x ≡ named i es
+              → when (not x) (record { id = i; rows = n; cols = k }) ≡ entry_line es l
+          unfolding entry_line ◌>>=◌
+          entry_last k ek x e = rw (← g, ← h, ← ei, ← er, ← ek, e)

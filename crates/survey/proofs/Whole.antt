@@ -1,26 +1,23 @@
 -- Laws of the whole text, as the proof of `split` uses them. Assumes nothing.
-use Rattle.std.specs.Prelude.{◌≡◌, refl, true, false, ℕ, zero, suc, ◌+◌, ◌-◌, ◌*◌, ◌<◌, ◌≤◌, Float, length, take, drop}
+use Rattle.std.specs.Prelude.{◌≡◌, refl, ℕ, zero, suc, ◌+◌, ◌-◌, ◌*◌, ◌<◌, ◌≤◌, Float, length, take, drop}
 use Rattle.std.proofs.Math.Path.{sym}
-use Rattle.std.proofs.Common.{ap, subst, ◌∙◌, add-one, arith, suc-mul, zero-mul, length-append, get_or-take, take_at}
+use Rattle.std.proofs.Common.{ap, subst, add-one, arith, suc-mul, zero-mul, length-append, take_at}
 use mathlib.Core.List.{List, [], ◌∷◌, ◌++◌, append_assoc}
 use Rattle.std.proofs.Math.Nat.{mul-le-mul}
-use borrow.Author.Tests.{eq-eqb}
 use Rattle.std.proofs.Math.ListN.{get_or}
-use Rattle.std.proofs.Math.Seq.{drop-cons, sets, length-sets, drop-length, length-take-le}
+use Rattle.std.proofs.Math.Seq.{drop-cons, sets, length-sets, drop-length}
 use Rattle.std.proofs.lemmas.List.Edits.{sets-eq}
+use Rattle.std.proofs.lemmas.List.{nil_from_length}
 use Rattle.survey.specs.declared.reading.Entry.{Entry}
-use Rattle.survey.specs.declared.reading.Place.{Place}
-use Rattle.survey.specs.declared.reading.Head.{Head}
 use Rattle.text.specs.Text.{Bytes}
 use Rattle.survey.specs.Form.{entry_line, row_line, Got, malformed, got, line, and_then, contents, count_line, head, body, bodies, reading, Survey, Reading}
 use Rattle.survey.specs.Print.{survey_text, surveys_text, malformed_text, printed, split}
-use Rattle.survey.specs.Code.{placed, body_stored, headed, survey_of}
+use Rattle.survey.specs.Code.{body_stored, survey_of}
 use Rattle.survey.proofs.Lines.{zeros}
 use Rattle.survey.proofs.LineSize.{line-size}
 use Rattle.survey.proofs.Bodies.{row_length}
 use Rattle.survey.specs.Found.{InRange}
 use Rattle.survey.proofs.Found.{entry_range, then_got}
-use Rattle.survey.proofs.Heads.{headed-got}
 
 -- ---- names
 
@@ -117,29 +114,22 @@ pub split-got : (t : Bytes) (es : List Entry) (n : ℕ) (t₁ : Bytes) → got e
 unfolding split reading
 split-got t es n t₁ e = rw (reading, ← e)
 
+-- what is left to print of what is left of a text, which has the bodies of the entries
+unfoldable pub left : List Entry → ℕ → Bytes → Bytes
+left es n t = printed (bodies es n t)
+
 module _ (es : List Entry) (i n : ℕ) (t : Bytes) (h : i < length es) where
   abbrev it : Entry
   it = get_or es i zeros
 
-  pub next_bad : (k : ℕ) → body it.rows (it.cols - 1) n t ≡ malformed k
-      → printed (bodies (drop i es) n t) ≡ malformed_text k
-  unfolding bodies printed surveys_text
+  next_bad : (k : ℕ) → body it.rows (it.cols - 1) n t ≡ malformed k → left (drop i es) n t ≡ malformed_text k
+  unfolding left bodies printed surveys_text
   next_bad k e = rw (drop-cons es i zeros h, bodies, e)
 
-  pub next_got : (xs : List Float) (n₁ : ℕ) (t₁ : Bytes) → body it.rows (it.cols - 1) n t ≡ got xs n₁ t₁
-      → printed (bodies (drop i es) n t) ≡ survey_text (survey_of it xs) ++ printed (bodies (drop (i + 1) es) n₁ t₁)
-  unfolding bodies
+  next_got : (xs : List Float) (n₁ : ℕ) (t₁ : Bytes) → body it.rows (it.cols - 1) n t ≡ got xs n₁ t₁
+      → left (drop i es) n t ≡ survey_text (survey_of it xs) ++ left (drop (i + 1) es) n₁ t₁
+  unfolding left bodies
   next_got xs n₁ t₁ e = rw (add-one i, drop-cons es i zeros h, bodies, e) (printed-first (survey_of it xs) _ _)
-
-pub end_whole : (es : List Entry) (i n : ℕ) (t : Bytes) (p : ℕ) → i ≡ length es → p ≡ length t
-    → printed (bodies (drop i es) n (drop p t)) ≡ []
-unfolding bodies printed surveys_text malformed_text
-end_whole es i n t p e f = rw (e, f, drop-length, drop-length)
-
-pub end_extra : (es : List Entry) (i n : ℕ) (t : Bytes) (p : ℕ) → i ≡ length es → p < length t
-    → printed (bodies (drop i es) n (drop p t)) ≡ malformed_text n
-unfolding bodies printed surveys_text
-end_extra es i n t p e f = rw (e, drop-length, drop-cons t p 0 f)
 
 -- the readings that were stored stand first
 pub stored-first : (n : ℕ) (m xs : List Float) → length xs ≡ n → n ≤ length m → take n (sets m 0 xs) ≡ xs
@@ -149,53 +139,23 @@ stored-first n m xs h g =
 
 -- ---- the code's loop over the surveys, i of them done
 
--- what is left to print
-unfoldable pub left : Bytes → List Entry → ℕ → ℕ → ℕ → ℕ → Bytes
-left t es count i n p = printed (bodies (drop i (take count es)) n (drop p t))
+module _ (es : List Entry) (i n : ℕ) (t : Bytes) (h : i < length es) (a : All es)
+    (m m₁ : List Float) (e : Entry) (is : e ≡ get_or es i zeros) where
+  pub turn-bad : (k : ℕ) → malformed k ≡ body_stored e.rows (e.cols - 1) n t m 0 → left (drop i es) n t ≡ malformed_text k
+  turn-bad k q = next_bad es i n t h k (rw (← is) (body-no e.rows (e.cols - 1) n t m k q))
 
-module _ (t : Bytes) (es : List Entry) (count i n p : ℕ) (h : i < count) (l : count ≤ length es)
-    (a : All (take count es)) where
-  inside : i < length (take count es)
-  inside = rw length-take-le h
-
-  same : get_or (take count es) i zeros ≡ get_or es i zeros
-  same = get_or-take count es i zeros h
-
-  pub range : InRange (get_or es i zeros)
-  range = rw (← same) (all_at (take count es) i a inside)
-
-  module _ (m m₁ : List Float) (b : Place) (w : length m ≡ 2304) (e : Entry) (is : e ≡ get_or es i zeros)
-      (k : placed b t m₁ ≡ body_stored e.rows (e.cols - 1) n (drop p t) m 0) where
-    pub turn-bad : b.ok ≡ false → left t es count i n p ≡ malformed_text b.line
-    unfolding left placed
-    turn-bad o =
-        let q : malformed b.line ≡ body_stored e.rows (e.cols - 1) n (drop p t) m 0 = rw (placed, o) at k in
-        let j : e ≡ get_or (take count es) i zeros = rw same is in
-        next_bad (take count es) i n (drop p t) inside b.line (rw (← j) (body-no e.rows (e.cols - 1) n (drop p t) m b.line q))
-
-    pub turn-got : b.ok ≡ true
-        → (left t es count i n p
-        ≡ survey_text (survey_of e (take (e.rows * e.cols) m₁)) ++ left t es count (i + 1) b.line b.at)
-        × (length m₁ ≡ 2304)
-    unfolding left placed
-    turn-got o =
-        let q : got m₁ b.line (drop b.at t) ≡ body_stored e.rows (e.cols - 1) n (drop p t) m 0 = rw (placed, o) at k in
-        let j : e ≡ get_or (take count es) i zeros = rw same is in
-        let y = body-yes e.rows (e.cols - 1) n (drop p t) m m₁ b.line (drop b.at t) q in
-        more y.0 j y.1 y.2
-      where
-        more : (xs : List Float) → e ≡ get_or (take count es) i zeros
-            → body e.rows (e.cols - 1) n (drop p t) ≡ got xs b.line (drop b.at t) → m₁ ≡ sets m 0 xs
-            → (left t es count i n p
-            ≡ survey_text (survey_of e (take (e.rows * e.cols) m₁)) ++ left t es count (i + 1) b.line b.at)
-            × (length m₁ ≡ 2304)
-        more xs j x y =
-            let r : InRange e = rw is range in
-            let z = survey_length e r n (drop p t) xs b.line (drop b.at t) x in
-            let v : e.rows * e.cols ≤ 48 * 48 = mul-le-mul r.rows_most r.cols_most in (
-              rw (y, stored-first (e.rows * e.cols) m xs z (omega (arith, v, w)), j) (next_got (take count es) i n (drop p t) inside xs b.line (drop b.at t) (rw (← j) x)),
-              rw (y, length-sets) w,
-            )
+  pub turn-got : length m₁ ≡ 2304 → (n₁ : ℕ) (t₁ : Bytes) → got m₁ n₁ t₁ ≡ body_stored e.rows (e.cols - 1) n t m 0
+      → left (drop i es) n t ≡ survey_text (survey_of e (take (e.rows * e.cols) m₁)) ++ left (drop (i + 1) es) n₁ t₁
+  turn-got w n₁ t₁ q = let y = body-yes e.rows (e.cols - 1) n t m m₁ n₁ t₁ q in more y.0 y.1 y.2
+    where
+      more : (xs : List Float) → body e.rows (e.cols - 1) n t ≡ got xs n₁ t₁ → m₁ ≡ sets m 0 xs
+          → left (drop i es) n t ≡ survey_text (survey_of e (take (e.rows * e.cols) m₁)) ++ left (drop (i + 1) es) n₁ t₁
+      more xs x y =
+          let r : InRange e = rw is (all_at es i a h) in
+          let z = survey_length e r n t xs n₁ t₁ x in
+          let v : e.rows * e.cols ≤ 48 * 48 = mul-le-mul r.rows_most r.cols_most in
+          let u : length m ≡ 2304 = rw (y, length-sets) at w in
+          rw (y, stored-first (e.rows * e.cols) m xs z (omega (arith, v, u)), is) (next_got es i n t h xs n₁ t₁ (rw (← is) x))
 
 pub area : (e : Entry) → InRange e → (e.rows * e.cols ≤ 2304) × (e.rows * (e.cols - 1 + 1) ≤ 2304)
 area e r =
@@ -204,24 +164,21 @@ area e r =
     (omega arith, rw c₁ (omega arith))
 
 -- where the loop begins
-module _ (t : Bytes) (h : Head) (e : headed h t ≡ head 1 t) where
-  pub begin_bad : h.count ≡ 0 → split t ≡ malformed_text h.line
-  unfolding headed
-  begin_bad z = let q : malformed h.line ≡ head 1 t = rw (headed, eq-eqb h.count 0 z) at e in split-bad t h.line q
-
-  pub begin_got : 0 < h.count
-      → (All (take h.count h.es)) × (left t h.es h.count 0 h.line h.at ≡ split t)
-  unfolding left
-  begin_got z =
-      let q : got (take h.count h.es) h.line (drop h.at t) ≡ head 1 t = sym (headed-got h t z) ∙ e in
-      (head-all t (take h.count h.es) h.line (drop h.at t) (sym q), sym (split-got t (take h.count h.es) h.line (drop h.at t) q))
+pub begin_got : (t : Bytes) (es : List Entry) (n : ℕ) (t₁ : Bytes) → got es n t₁ ≡ head 1 t
+    → All es × (left es n t₁ ≡ split t)
+unfolding left
+begin_got t es n t₁ e = (head-all t es n t₁ (sym e), sym (split-got t es n t₁ e))
 
 -- where the loop is left
-module _ (t : Bytes) (es : List Entry) (count i n p : ℕ) (h : i ≡ count) (l : count ≤ length es) where
-  pub done_whole : p ≡ length t → left t es count i n p ≡ []
-  unfolding left
-  done_whole g = end_whole (take count es) i n t p (rw length-take-le h) g
+module _ (es : List Entry) (i n : ℕ) (t : Bytes) (h : i ≡ length es) where
+  pub done_whole : length t ≡ 0 → left (drop i es) n t ≡ []
+  unfolding left bodies printed surveys_text malformed_text
+  done_whole g = let z : t ≡ [] = nil_from_length t g in rw (h, drop-length, z)
 
-  pub done_extra : p < length t → left t es count i n p ≡ malformed_text n
-  unfolding left
-  done_extra g = end_extra (take count es) i n t p (rw length-take-le h) g
+  pub done_extra : (length t ≡ 0 → ⊥) → left (drop i es) n t ≡ malformed_text n
+  unfolding left bodies printed surveys_text
+  done_extra g = rw (h, drop-length) (more t g)
+    where
+      more : (t : Bytes) → (length t ≡ 0 → ⊥) → printed (bodies [] n t) ≡ malformed_text n
+      more [] g = absurd (g refl)
+      more (b ∷ t) g = refl

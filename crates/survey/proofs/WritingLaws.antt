@@ -1,6 +1,6 @@
 -- Laws of the writing: each text part by part, and how long it is. Assumes nothing.
 use Rattle.std.specs.Prelude.{◌≡◌, refl, List, [], ◌∷◌, ◌++◌, map, ℕ, zero, suc, ◌+◌, ◌-◌, ◌*◌, ◌<◌, ◌≤◌, Float, length, get_or, take, drop}
-use Rattle.std.proofs.Common.{sym, ap, ◌∙◌, add-one, arith, mul-le-mul_right, suc-mul, zero-mul, length-append, take-append-drop, drop-cons, drop-drop}
+use Rattle.std.proofs.Common.{sym, ap, ◌∙◌, add-one, arith, suc-mul, zero-mul, length-append, take-append-drop, drop-cons}
 use borrow.Author.Tests.{eq-eqb, ne_eqb}
 use Rattle.std.specs.Float.{nan, binary64}
 use Rattle.std.specs.Float.Ieee.{to_bits}
@@ -8,9 +8,11 @@ use Rattle.std.proofs.Math.ListN.{length-drop}
 use Rattle.std.proofs.Math.Seq.{length-take-le}
 use Rattle.std.proofs.lemmas.List.{take-append-le, drop-append-le}
 use Rattle.method.specs.Outcome.{Outcome}
-use Rattle.text.specs.Text.{Bytes, LF, space, digits, shown, ending, line_text, leaves, put_at}
-use Rattle.text.specs.Writing.{Wrote}
-use Rattle.text.proofs.WritingLaws.{wrote}
+use Rattle.std.proofs.Math.Seq.{drop-length}
+use Rattle.text.specs.declared.page.Page.{Page}
+use Rattle.text.specs.Text.{Bytes, LF, space, digits, shown, ending, line_text}
+use Rattle.text.specs.Page.{Puts, Writes}
+use Rattle.text.proofs.Pages.{writes}
 use Rattle.text.proofs.Digits.{length_digits}
 use Rattle.survey.specs.Print.{hex, row_text, rows_text, refused_word, report_text, refused_text, outcome_text, malformed_text}
 
@@ -18,21 +20,12 @@ pub length-hex : (x : Float) → length (hex x) ≡ 16
 unfolding hex
 length-hex x = length_digits 16 16 (to_bits binary64 x)
 
--- a float's digits, as the code writes them
-pub hex-wrote : (out o : Bytes) (q a p : ℕ) (x : Float) → p ≡ to_bits binary64 x
-    → leaves o a ≡ put_at q (digits 16 16 p) out → Wrote out q (hex x) o a
+-- a float's digits, as the code puts them
+pub hex-writes : {p q : Page} (n : ℕ) (x : Float) → n ≡ to_bits binary64 x → Puts p (digits 16 16 n) q → Writes p (hex x) q
 unfolding hex
-hex-wrote out o q a p x e h = wrote out q (hex x) o a (rw e at h)
+hex-writes n x e h = writes (rw e at h)
 
 -- ---- a line of readings
-
--- the first of the readings from k on, and the others
-pub part-cons : (m : List Float) (from c k : ℕ) → k < c → from + c ≤ length m
-    → take (c - k) (drop (from + k) m) ≡ get_or m (from + k) nan ∷ take (c - (k + 1)) (drop (from + (k + 1)) m)
-part-cons m from c k h g =
-    let z : c - k ≡ suc (c - (k + 1)) = omega arith in
-    let y : suc (from + k) ≡ from + (k + 1) = omega arith in
-    rw (z, drop-cons m (from + k) nan (omega arith), y)
 
 pub after_more : (xs : List Float) → 0 < length xs → space ≡ ending (map hex xs)
 unfolding ending
@@ -49,29 +42,22 @@ pub row_next : (x : Float) (xs : List Float) (s : ℕ) → s ≡ ending (map hex
 unfolding row_text line_text
 row_next x xs s e = rw e
 
-module _ (m : List Float) (from c k : ℕ) (h : k < c) (g : from + c ≤ length m) where
-  others : List Float
-  others = take (c - (k + 1)) (drop (from + (k + 1)) m)
+-- the readings from k on, the first of them and the others
+module _ (row : List Float) (k : ℕ) (h : k < length row) where
+  first-others : drop k row ≡ get_or row k nan ∷ drop (k + 1) row
+  first-others = rw (drop-cons row k nan h, add-one k)
 
-  length-others : length others ≡ c - (k + 1)
-  unfolding others
-  length-others = length-take-le (c - (k + 1)) (drop (from + (k + 1)) m) (simp length-drop (omega arith))
+  pub row_more : k + 1 < length row
+      → row_text (drop k row) ≡ hex (get_or row k nan) ++ (space ∷ row_text (drop (k + 1) row))
+  row_more n = rw first-others (row_next _ (drop (k + 1) row) space (after_more (drop (k + 1) row) (omega (arith, length-drop (k + 1) row))))
 
-  pub row_more : k + 1 < c
-      → row_text (take (c - k) (drop (from + k) m))
-      ≡ hex (get_or m (from + k) nan) ++ (space ∷ row_text (take (c - (k + 1)) (drop (from + (k + 1)) m)))
-  unfolding others
-  row_more n = rw (part-cons m from c k h g) (row_next _ others space (after_more others (omega (arith, length-others))))
+  pub row_last : length row ≤ k + 1
+      → row_text (drop k row) ≡ hex (get_or row k nan) ++ (LF ∷ row_text (drop (k + 1) row))
+  row_last n = rw first-others (row_next _ (drop (k + 1) row) LF (after_last (drop (k + 1) row) (omega (arith, length-drop (k + 1) row))))
 
-  pub row_last : c ≤ k + 1
-      → row_text (take (c - k) (drop (from + k) m))
-      ≡ hex (get_or m (from + k) nan) ++ (LF ∷ row_text (take (c - (k + 1)) (drop (from + (k + 1)) m)))
-  unfolding others
-  row_last n = rw (part-cons m from c k h g) (row_next _ others LF (after_last others (omega (arith, length-others))))
-
-pub row_done : (m : List Float) (c k : ℕ) → k ≡ c → row_text (take (c - k) m) ≡ []
+pub row_done : (row : List Float) (k : ℕ) → k ≡ length row → row_text (drop k row) ≡ []
 unfolding row_text line_text
-row_done m c k e = let z : c - c ≡ 0 = omega arith in rw (e, z)
+row_done row k e = rw (e, drop-length)
 
 pub length-row : (xs : List Float) → length (row_text xs) ≡ 17 * length xs
 unfolding row_text line_text
@@ -80,19 +66,17 @@ length-row (x ∷ xs) = length-append (hex x) (ending (map hex xs) ∷ row_text 
 
 -- ---- lines of readings
 
-pub times_next : (j c : ℕ) → (j + 1) * c ≡ j * c + c
-times_next j c = rw (add-one j) (suc-mul j c)
+-- r - j of them
+module _ (r c j : ℕ) (m : List Float) (h : j < r) where
+  one-more : r - j ≡ suc (r - (j + 1))
+  one-more = omega arith
 
-pub times_below : (j r c : ℕ) → j < r → j * c + c ≤ r * c
-times_below j r c h =
-    let g : (j + 1) * c ≤ r * c = mul-le-mul_right c (omega arith) in
-    omega (arith, times_next j c)
+  pub rows_next : rows_text (r - j) c m ≡ row_text (take c m) ++ rows_text (r - (j + 1)) c (drop c m)
+  unfolding rows_text
+  rows_next = rw one-more
 
-pub rows_next : (r c j : ℕ) (m : List Float) → j < r
-    → rows_text (r - j) c (drop (j * c) m)
-    ≡ row_text (take c (drop (j * c) m)) ++ rows_text (r - (j + 1)) c (drop ((j + 1) * c) m)
-unfolding rows_text
-rows_next r c j m h = let z : r - j ≡ suc (r - (j + 1)) = omega arith in rw (z, drop-drop, times_next j c)
+  pub rows-left : (r - j) * c ≡ (r - (j + 1)) * c + c
+  rows-left = rw one-more (suc-mul (r - (j + 1)) c)
 
 pub rows_end : (r c j : ℕ) (m : List Float) → j ≡ r → rows_text (r - j) c m ≡ []
 unfolding rows_text

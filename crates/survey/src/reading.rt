@@ -1,234 +1,167 @@
 // The survey text read line by line: the contents, and a body after the other.
-ghost use Rattle.std.specs.Prelude.{◌≡◌, [], ◌+◌, ◌*◌, ◌<◌, ◌≤◌, length, take, drop};
-ghost use Rattle.text.specs.Text.{when};
-ghost use Rattle.survey.specs.Form.{named as named_in, entry_line, contents as contentsIn, head as headIn};
-ghost use Rattle.survey.specs.Code.{or_none, row_stored, placed, body_stored, HeadIs};
+ghost use Rattle.std.specs.Prelude.{◌≡◌, [], ◌+◌, ◌*◌, ◌<◌, ◌≤◌, IfOk, IfErr};
+ghost use Rattle.text.specs.Code.{option_of};
+ghost use Rattle.survey.specs.Form.{named as named_in, entry_line as entryIn, contents as contentsIn, head as headIn};
+ghost use Rattle.survey.specs.Code.{stored, row_stored, placed, body_stored, HeadIs, LineIs};
 
-use text::fields::find;
-use text::numerals::{Number, pattern, whole};
+use checks::sizes::MOST_SIZE;
+use text::fields::cut;
+use text::numerals::{pattern, whole};
+
+// The most readings of a survey.
+pub(crate) const READINGS: usize = MOST_SIZE * MOST_SIZE;
+
+// The most surveys of a text.
+const MOST_SURVEYS: usize = 8;
 
 // A survey's line of the contents.
-#[derive(Clone, Copy)]
+#[derive(Clone, Copy, Default)]
 pub(crate) struct Entry {
     pub(crate) id: u64,
     pub(crate) rows: usize,
     pub(crate) cols: usize,
 }
 
-// Where reading goes on, and the number of the line there; or the number of the malformed line.
+// The number of the line that is malformed.
 #[derive(Clone, Copy)]
-pub(crate) struct Place {
-    pub(crate) ok: bool,
-    pub(crate) at: usize,
+pub(crate) struct Malformed {
     pub(crate) line: usize,
 }
 
-// The contents, and where the bodies begin; count 0 and the number of the malformed line.
+// What is left of a text, and the number of the line that it begins with.
 #[derive(Clone, Copy)]
-pub(crate) struct Head {
-    pub(crate) es: [Entry; 8],
-    pub(crate) count: usize,
-    pub(crate) at: usize,
+pub(crate) struct Rest<'a> {
+    pub(crate) text: &'a [u8],
     pub(crate) line: usize,
 }
 
-// Whether one of the first k entries has this id.
-fn named(es: [Entry; 8], k: usize, id: u64) -> bool
-    requires { k ≤ 8 }
-    ensures { result ≡ named_in id (take k es) }
-{
-    let mut i = 0;
-    while i < k {
-        let e = es[i];
-        if e.id == id {
-            return true;
+impl<'a> Rest<'a> {
+    // That line without its LF, and what is left after it.
+    fn next_line(self) -> Result<(&'a [u8], Rest<'a>), Malformed>
+        requires { self.line < 1000000 }
+        ensures { LineIs result self.entry.text.now self.entry.line }
+    {
+        match cut(self.text, b'\n') {
+            Some((line, text)) => Ok((
+                line,
+                Rest {
+                    text,
+                    line: self.line + 1,
+                },
+            )),
+            None => Err(Malformed { line: self.line }),
         }
-        i += 1;
     }
-    false
 }
 
-// A line of the contents, after k others; an entry of zeros where it is malformed.
-fn entry_line(l: &[u8], es: [Entry; 8], k: usize) -> Entry
-    requires { k ≤ 8 }
-    ensures { result ≡ or_none (entry_line (take k es) l.now) }
+// The contents, and the bodies that follow.
+// Kept: entries and their count, since there is no Vec to hold them.
+// Kept: here and in vectors a `Head` is what comes before the rest of the input, whatever that is.
+#[derive(Clone, Copy)]
+pub(crate) struct Head<'a> {
+    pub(crate) es: [Entry; MOST_SURVEYS],
+    pub(crate) count: usize,
+    pub(crate) bodies: Rest<'a>,
+}
+
+// Whether one of the entries has this id.
+fn named(es: &[Entry], id: u64) -> bool
+    ensures { result ≡ named_in id es.now }
 {
-    let none = Entry {
-        id: 0,
-        rows: 0,
-        cols: 0,
-    };
-    let a = find(l, 0, 32);
-    if a == l.len() {
-        return none;
+    es.iter().any(|e| e.id == id)
+}
+
+// A line of the contents, after those of the entries es.
+// Kept: `as usize` of at most 48 loses nothing; usize::try_from would add an error that never comes.
+fn entry_line(l: &[u8], es: &[Entry]) -> Option<Entry>
+    ensures { option_of result ≡ entryIn es.now l.now }
+{
+    let (id, sizes) = cut(l, b' ')?;
+    let (rows, cols) = cut(sizes, b' ')?;
+    let id = whole(id, 65535)?;
+    let rows = whole(rows, MOST_SIZE as u64)?;
+    let cols = whole(cols, MOST_SIZE as u64)?;
+    if named(es, id) {
+        return None;
     }
-    let a1 = a + 1;
-    let b = find(l, a1, 32);
-    if b == l.len() {
-        return none;
-    }
-    let b1 = b + 1;
-    let id = whole(&l[..a], 65535);
-    if id == 0 {
-        return none;
-    }
-    let rows = whole(&l[a1..b], 48);
-    if rows == 0 {
-        return none;
-    }
-    let cols = whole(&l[b1..], 48);
-    if cols == 0 {
-        return none;
-    }
-    if named(es, k, id) {
-        return none;
-    }
-    Entry {
+    Some(Entry {
         id,
         rows: rows as usize,
         cols: cols as usize,
-    }
+    })
 }
 
-// A line of c + 1 readings, stored from `at` on; false where it is malformed.
-fn row_line(l: &[u8], c: usize, m: &mut [f64; 2304], at: usize) -> bool
+// A line of c + 1 readings, stored from `at` on.
+// Kept: the whole of m and a place in it, as `row_stored` takes them, and `body_stored` for a body.
+fn row_line(l: &[u8], c: usize, m: &mut [f64; READINGS], at: usize) -> Option<()>
     requires { at + c < 2304 }
-    ensures { when result m.new ≡ row_stored c l.now m.old at }
+    ensures { stored result m.new ≡ row_stored c l.now m.old at }
 {
-    let mut p = 0;
-    let mut k = 0;
-    while k < c {
-        let e = find(l, p, 32);
-        if e == l.len() {
-            return false;
-        }
-        match pattern(&l[p..e]) {
-            Number::Is(b) => {
-                m[at + k] = float::from_bits(b);
-            }
-            Number::Not => {
-                return false;
-            }
-        }
-        p = e + 1;
-        k += 1;
+    let mut left = l;
+    for k in 0..c {
+        let (reading, rest) = cut(left, b' ')?;
+        let bits = pattern(reading)?;
+        m[at + k] = float::from_bits(bits);
+        left = rest;
     }
-    match pattern(&l[p..]) {
-        Number::Is(b) => {
-            m[at + c] = float::from_bits(b);
-            true
-        }
-        Number::Not => false,
-    }
+    let last = pattern(left)?;
+    m[at + c] = float::from_bits(last);
+    Some(())
 }
 
-// A body of `rows` rows of c + 1 readings, from line n at `at` on, into m.
-pub(crate) fn body(
-    text: &[u8],
-    at: usize,
-    n: usize,
+// A body of `rows` rows of c + 1 readings, stored in m; and what is left after it.
+pub(crate) fn body<'a>(
+    from: Rest<'a>,
     rows: usize,
     c: usize,
-    m: &mut [f64; 2304],
-) -> Place
-    requires { (at ≤ length text.now) × (n + rows < 1000000) × (c < 48) × (rows * (c + 1) ≤ 2304) }
-    ensures { (placed result text.now m.new
-        ≡ body_stored rows c n (drop at text.now) m.old 0)
-        × (result.at ≤ length text.now) × (n ≤ result.line) × (result.line ≤ n + rows) }
+    m: &mut [f64; READINGS],
+) -> Result<Rest<'a>, Malformed>
+    requires { (from.line + rows < 1000000) × (c < 48) × (rows * (c + 1) ≤ 2304) }
+    ensures body { placed result m.new ≡ body_stored rows c from.entry.line from.entry.text.now m.old 0 }
+    ensures line { IfOk result (λ r. r.line ≡ from.entry.line + rows) }
+    ensures malformed { IfErr result (λ e. from.entry.line ≤ e.line) }
 {
-    let mut p = at;
-    let mut k = 0;
-    let mut j = 0;
-    while j < rows {
-        let end = find(text, p, 10);
-        if end == text.len() {
-            return Place {
-                ok: false,
-                at: 0,
-                line: n + j,
-            };
-        }
-        if row_line(&text[p..end], c, m, k) {
-            p = end + 1;
-            k += c + 1;
-            j += 1;
-        } else {
-            return Place {
-                ok: false,
-                at: 0,
-                line: n + j,
-            };
-        }
+    let mut left = from;
+    let mut at = 0;
+    for j in 0..rows {
+        let (row, rest) = left.next_line()?;
+        let malformed = Malformed {
+            line: from.line + j,
+        };
+        row_line(row, c, m, at).ok_or(malformed)?;
+        at += c + 1;
+        left = rest;
     }
-    Place {
-        ok: true,
-        at: p,
-        line: n + j,
-    }
+    Ok(left)
 }
 
-// Says that line `line` is malformed.
-fn malformed(line: usize) -> Head
-    ensures { (result.count ≡ 0) × (result.at ≡ 0) × (result.line ≡ line) × (length result.es ≡ 8) }
+// The lines of the contents, `count` of them.
+fn entries(from: Rest, count: usize) -> Result<Head, Malformed>
+    requires { (from.line ≡ 2) × (0 < count) × (count ≤ 8) }
+    ensures { HeadIs result (contentsIn count [] 2 from.entry.text.now) }
 {
-    let none = Entry {
-        id: 0,
-        rows: 0,
-        cols: 0,
-    };
-    Head {
-        es: [none; 8],
-        count: 0,
-        at: 0,
-        line,
+    let mut es = [Entry::default(); MOST_SURVEYS];
+    let mut left = from;
+    for i in 0..count {
+        let (line, rest) = left.next_line()?;
+        let malformed = Malformed { line: i + 2 };
+        es[i] = entry_line(line, &es[..i]).ok_or(malformed)?;
+        left = rest;
     }
-}
-
-// The lines of the contents, `count` of them, from line 2 at `at` on.
-fn entries(text: &[u8], at: usize, count: usize) -> Head
-    requires { (at ≤ length text.now) × (0 < count) × (count ≤ 8) }
-    ensures { HeadIs result text.now (contentsIn count [] 2 (drop at text.now)) }
-{
-    let none = Entry {
-        id: 0,
-        rows: 0,
-        cols: 0,
-    };
-    let mut es = [none; 8];
-    let mut p = at;
-    let mut i = 0;
-    while i < count {
-        let e = find(text, p, 10);
-        if e == text.len() {
-            return malformed(i + 2);
-        }
-        let x = entry_line(&text[p..e], es, i);
-        if x.id == 0 {
-            return malformed(i + 2);
-        }
-        es[i] = x;
-        p = e + 1;
-        i += 1;
-    }
-    Head {
+    Ok(Head {
         es,
         count,
-        at: p,
-        line: i + 2,
-    }
+        bodies: left,
+    })
 }
 
 // The count and the contents of a text.
-pub(crate) fn contents(text: &[u8]) -> Head
-    ensures { HeadIs result text.now (headIn 1 text.now) }
+pub(crate) fn contents(text: &[u8]) -> Result<Head, Malformed>
+    ensures { HeadIs result (headIn 1 text.now) }
 {
-    let f = find(text, 0, 10);
-    if f == text.len() {
-        return malformed(1);
-    }
-    let count = whole(&text[..f], 8) as usize;
-    if count == 0 {
-        return malformed(1);
-    }
-    entries(text, f + 1, count)
+    let all = Rest { text, line: 1 };
+    let (first, rest) = all.next_line()?;
+    let malformed = Malformed { line: 1 };
+    let count = whole(first, MOST_SURVEYS as u64).ok_or(malformed)?;
+    entries(rest, count as usize)
 }

@@ -1,119 +1,112 @@
-// Lines written into the text that is printed. Each function writes from `at` on and answers where its
-// bytes end; past the end of out where they have no room.
-ghost use Rattle.std.specs.Prelude.{[], ◌∷◌, ◌+◌, ◌*◌, ◌<◌, ◌≤◌, length, take, drop};
+// Lines written on the page that is printed.
+// Kept: no Display: `split_text` promises the bytes of a lent array, and `Writes` says what each puts there.
+// Kept: each takes what its definition in specs does: `report_text` an id, `rows_text` r, c and readings.
+ghost use Rattle.std.specs.Prelude.{Ok, Err, [], ◌∷◌, ◌*◌, ◌<◌, ◌≤◌, length, take};
 ghost use Rattle.method.specs.Work.{work};
 ghost use Rattle.method.specs.Outcome.{outcome_of};
 ghost use Rattle.svd.specs.Values.{report_of, word_in};
 ghost use Rattle.text.specs.Text.{space};
-ghost use Rattle.text.specs.Writing.{Wrote};
+ghost use Rattle.text.specs.Page.{Writes};
 ghost use Rattle.survey.specs.Print.{row_text, rows_text, word_text};
 ghost use Rattle.survey.specs.Print.{report_text, refused_text, outcome_text, malformed_text};
 
 use crate::reading::Entry;
+use checks::refusal::Refusal;
 use svd::report::{Report, Word};
-use text::writing::{put, put_decimal, put_field, put_hex};
+use text::page::Page;
 
 // A space, and the report's word.
-fn put_word(out: &mut [u8], at: usize, word: Word) -> usize
-    ensures { Wrote out.old at (space ∷ word_text (word_in word)) out.new result }
+fn put_word(page: &mut Page, word: Word)
+    ensures { Writes page.old (space ∷ word_text (word_in word)) page.new }
 {
     match word {
-        Word::None => put(out, at, b" none"),
-        Word::Settled => put(out, at, b" settled"),
-        Word::Stopped => put(out, at, b" stopped"),
-        Word::Quiet => put(out, at, b" quiet"),
+        Word::Settled => page.put(b" settled"),
+        Word::Stopped => page.put(b" stopped"),
+        Word::Quiet => page.put(b" quiet"),
     }
 }
 
-// A line of the c readings of m from `from` on.
-fn put_row(out: &mut [u8], at: usize, m: &[f64], from: usize, c: usize) -> usize
-    requires { from + c ≤ length m.now }
-    ensures { Wrote out.old at (row_text (take c (drop from m.now))) out.new result }
+// A line of readings.
+fn put_row(page: &mut Page, row: &[f64])
+    ensures { Writes page.old (row_text row.now) page.new }
 {
-    let mut q = at;
-    let mut k = 0;
-    while k < c {
-        let x = m[from + k];
-        let a = put_hex(out, q, 16, float::to_bits(x));
-        k += 1;
-        if k < c {
-            q = put(out, a, b" ");
+    for (k, x) in row.iter().enumerate() {
+        page.put_hex(16, float::to_bits(*x));
+        if k + 1 < row.len() {
+            page.put(b" ");
         } else {
-            q = put(out, a, b"\n");
+            page.put(b"\n");
         }
     }
-    q
 }
 
 // r lines of c readings.
-fn put_rows(out: &mut [u8], at: usize, m: &[f64], r: usize, c: usize) -> usize
+fn put_rows(page: &mut Page, m: &[f64], r: usize, c: usize)
     requires { r * c ≤ length m.now }
-    ensures { Wrote out.old at (rows_text r c m.now) out.new result }
+    ensures { Writes page.old (rows_text r c m.now) page.new }
 {
-    let mut q = at;
-    let mut from = 0;
-    let mut j = 0;
-    while j < r {
-        q = put_row(out, q, m, from, c);
-        from += c;
-        j += 1;
+    let mut left = m;
+    for _ in 0..r {
+        let (row, rest) = left.split_at(c);
+        put_row(page, row);
+        left = rest;
     }
-    q
 }
 
 // The line of an accepted survey: `id word passes sweeps drops range rotations`.
-fn put_report(out: &mut [u8], at: usize, id: u64, report: Report) -> usize
-    ensures { Wrote out.old at (report_text id (report_of report)) out.new result }
+// Kept: a line for each field: a loop over an array of them says the same in more words.
+fn put_report(page: &mut Page, id: u64, report: Report)
+    ensures { Writes page.old (report_text id (report_of (Ok report))) page.new }
 {
-    let word = report.word;
-    let a = put_decimal(out, at, id);
-    let b = put_word(out, a, word);
-    let c = put_field(out, b, report.tally.passes as u64);
-    let d = put_field(out, c, report.tally.sweeps as u64);
-    let e = put_field(out, d, report.tally.drops as u64);
-    let f = put_field(out, e, report.tally.range as u64);
-    let g = put_field(out, f, report.tally.rotations as u64);
-    put(out, g, b"\n")
+    page.put_decimal(id);
+    put_word(page, report.word);
+    page.put_field(report.tally.passes as u64);
+    page.put_field(report.tally.sweeps as u64);
+    page.put_field(report.tally.drops as u64);
+    page.put_field(report.tally.range as u64);
+    page.put_field(report.tally.rotations as u64);
+    page.put(b"\n");
 }
 
 // The line of a survey that the call refuses: `id refused number row column count`.
-fn put_refused(out: &mut [u8], at: usize, id: u64, report: Report) -> usize
-    ensures { Wrote out.old at (refused_text id (report_of report)) out.new result }
+fn put_refused(page: &mut Page, id: u64, refusal: Refusal)
+    ensures { Writes page.old (refused_text id (report_of (Err refusal))) page.new }
 {
-    let a = put_decimal(out, at, id);
-    let b = put(out, a, b" refused");
-    let c = put_field(out, b, report.refusal.number as u64);
-    let d = put_field(out, c, report.refusal.place.row as u64);
-    let e = put_field(out, d, report.refusal.place.column as u64);
-    let f = put_field(out, e, report.refusal.place.bad as u64);
-    put(out, f, b"\n")
+    let place = refusal.place();
+    page.put_decimal(id);
+    page.put(b" refused");
+    page.put_field(refusal.number() as u64);
+    page.put_field(place.row as u64);
+    page.put_field(place.column as u64);
+    page.put_field(place.bad as u64);
+    page.put(b"\n");
 }
 
 // What the call says of a survey, whose matrix are the first readings of m.
-pub(crate) fn put_outcome(out: &mut [u8], at: usize, e: Entry, report: Report, m: &[f64]) -> usize
+pub(crate) fn put_outcome(page: &mut Page, e: Entry, answer: Result<Report, Refusal>, m: &[f64])
     requires { e.rows * e.cols ≤ length m.now }
-    ensures { Wrote out.old at
+    ensures { Writes page.old
         (outcome_text e.id e.rows e.cols
-        (outcome_of (report_of report) (work (take (e.rows * e.cols) m.now) [] [])))
-        out.new result }
+        (outcome_of (report_of answer) (work (take (e.rows * e.cols) m.now) [] [])))
+        page.new }
 {
-    let rows = e.rows;
-    let cols = e.cols;
-    if report.refusal.number == 0 {
-        let a = put_report(out, at, e.id, report);
-        put_rows(out, a, m, rows, cols)
-    } else {
-        put_refused(out, at, e.id, report)
+    match answer {
+        Ok(report) => {
+            put_report(page, e.id, report);
+            put_rows(page, m, e.rows, e.cols);
+        }
+        Err(refusal) => put_refused(page, e.id, refusal),
     }
 }
 
 // The line of a text whose first malformed line is line n: `refused 9 n`.
-pub(crate) fn put_malformed(out: &mut [u8], at: usize, n: usize) -> usize
+// Kept: 9 is the number of no refusal of a call; `malformed_text` alone has it.
+pub(crate) fn put_malformed(page: &mut Page, n: usize)
     requires { 0 < n }
-    ensures { Wrote out.old at (malformed_text n) out.new result }
+    ensures { Writes page.old (malformed_text n) page.new }
 {
-    let a = put(out, at, b"refused");
-    let b = put_field(out, a, 9);
-    let c = put_field(out, b, n as u64);
-    put(out, c, b"\n")
+    page.put(b"refused");
+    page.put_field(9);
+    page.put_field(n as u64);
+    page.put(b"\n");
 }

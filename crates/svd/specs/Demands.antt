@@ -49,23 +49,21 @@ use Rattle.method.specs.View.{row_of}
 use Rattle.method.specs.Rows.{Side, size_of, row_at, OwnRows, row_alone, ZeroRow, exchanged}
 use Rattle.method.proofs.Rows.Calls.{calls_own, calls_alone, calls_zero, calls_exchanged}
 use Rattle.checks.specs.declared.settings.Settings.{Settings}
-use Rattle.checks.specs.Values.{settings_of, place_in, refusal_in}
-use Rattle.svd.specs.declared.report.Report.{Report}
-use Rattle.svd.specs.declared.report.Word.TheVariants.{Settled, Stopped, Quiet}
-use Rattle.svd.specs.Values.{tally_of, report_of, word_in}
-use Rattle.svd.specs.Answers.{word_one, report_one}
+use Rattle.checks.specs.Values.{settings_of}
+use Rattle.svd.specs.Values.{Answer, report_of}
+use Rattle.svd.specs.Answers.{report_one}
 use Rattle.svd.specs.Told.{reports_of, lists_of, told-number, told-place, told-alone, told-refused, told-accepted}
-use Rattle.svd.specs.Told.{told-true, told-made, told-due, told-done, told-spent, told-word, told-says}
+use Rattle.svd.specs.Told.{told-true, told-made, told-due, told-done, told-spent, told-word}
 use Rattle.svd.specs.Told.{worded-fine, told-settles, told-turns, told-moves, told-rotations}
 
 -- ---- what a call may answer
 
 -- On rows, cols, settings s and the lists w₀ a call may report r and leave the lists w. With U and V kept (`kept` true)
 -- it is `full_svd_decomposition`; without, it is `svd_decomposition`, whose lists u and v are empty.
-pub record Allowed (kept : Bool) (rows cols : ℕ) (s : Settings) (w₀ : Work) (r : Report) (w : Work) : Type 0 where
+pub record Allowed (kept : Bool) (rows cols : ℕ) (s : Settings) (w₀ : Work) (r : Answer) (w : Work) : Type 0 where
   pub promise : outcome_of (report_of r) w ≡ outcome binary64 kept rows cols (settings_of s) w₀
 
-module _ (rows cols : ℕ) (s : Settings) (r : Report) where
+module _ (rows cols : ℕ) (s : Settings) (r : Answer) where
   -- this is the promise of the accumulating call, as it stands on it
   pub full_allowed :
       (b₀ u₀ v₀ b u v : List Float) →
@@ -81,8 +79,8 @@ module _ (rows cols : ℕ) (s : Settings) (r : Report) where
   plain-allowed b₀ b e = record { promise = e }
 
 -- what is left of the table is quiet: every coupling inside the corner of the range that is told
-abbrev pub LeftQuiet : ℕ → ℕ → Report → Work → Type 0
-LeftQuiet rows cols r w = QuietCorner (is_upper rows cols) cols r.tally.range w.matrix
+abbrev pub LeftQuiet : ℕ → ℕ → Answer → Work → Type 0
+LeftQuiet rows cols r w = QuietCorner (is_upper rows cols) cols (report_of r).tally.range w.matrix
 
 module _ (kept : Bool) (rows cols : ℕ) (s : Settings) (w₀ : Work) where
   -- where the definition's walk starts: with the bidiagonal form
@@ -97,21 +95,21 @@ module _ (kept : Bool) (rows cols : ℕ) (s : Settings) (w₀ : Work) where
   abbrev pub after : ℕ → State Work
   after k = applied rules s.credit k first
 
-module _ (kept : Bool) (rows cols : ℕ) (s : Settings) (w₀ : Work) (r : Report) (w : Work) where
+module _ (kept : Bool) (rows cols : ℕ) (s : Settings) (w₀ : Work) (r : Answer) (w : Work) where
   -- ---- 1. what is unfit is refused, by number, in a fixed order, and nothing else is; a refused call writes nothing
 
   pub record Demand1 : Type 0 where
     -- the number is that of the first condition of the list that holds; 0 is answered exactly when none holds
-    pub number : (k : ℕ) → (r.refusal.number ≡ k) ↔ First k (meanings kept rows cols (settings_of s) w₀)
+    pub number : (k : ℕ) → ((report_of r).refusal.number ≡ k) ↔ First k (meanings kept rows cols (settings_of s) w₀)
     -- with 8 go the row and the column of the first reading that is not finite, and how many are not; with every other
     -- number three zeros; so the count is 0 exactly when the number is not 8
-    pub bad_reading : r.refusal.number ≡ 8 → FirstBad cols rows cols w₀.matrix (place_in r.refusal.place)
-    pub no_place : ¬ (r.refusal.number ≡ 8) → place_in r.refusal.place ≡ nowhere
-    pub none-bad : (r.refusal.place.bad ≡ 0) ↔ (¬ (r.refusal.number ≡ 8))
+    pub bad_reading : (report_of r).refusal.number ≡ 8 → FirstBad cols rows cols w₀.matrix ((report_of r).refusal.place)
+    pub no_place : ¬ ((report_of r).refusal.number ≡ 8) → (report_of r).refusal.place ≡ nowhere
+    pub none-bad : ((report_of r).refusal.place.bad ≡ 0) ↔ (¬ ((report_of r).refusal.number ≡ 8))
     -- a refused call reports that alone: the word is `none`, and nothing is counted
-    pub alone : ¬ (r.refusal.number ≡ 0) → report_of r ≡ refused (refusal_in r.refusal)
+    pub alone : ¬ ((report_of r).refusal.number ≡ 0) → report_of r ≡ refused (report_of r).refusal
     -- and it writes nothing
-    pub untouched : ¬ (r.refusal.number ≡ 0) → w ≡ w₀
+    pub untouched : ¬ ((report_of r).refusal.number ≡ 0) → w ≡ w₀
 
   -- ---- 2. what is accepted is the definition's, bit for bit
 
@@ -131,22 +129,22 @@ module _ (kept : Bool) (rows cols : ℕ) (s : Settings) (w₀ : Work) (r : Repor
   pub record Demand3 : Type 0 where
     -- the passes are those made: counts and lists are those after as many,
     pub made :
-        let e = after kept rows cols s w₀ r.tally.passes in
-        (tally_of r.tally ≡ e.walk.tally) × (w ≡ e.held)
+        let e = after kept rows cols s w₀ (report_of r).tally.passes in
+        ((report_of r).tally ≡ e.walk.tally) × (w ≡ e.held)
     -- before each of them there was one to do, and then none
-    pub due : (k : ℕ) → k < r.tally.passes → going s.limit (after kept rows cols s w₀ k).walk ≡ true
-    pub done : going s.limit (after kept rows cols s w₀ r.tally.passes).walk ≡ false
+    pub due : (k : ℕ) → k < (report_of r).tally.passes → going s.limit (after kept rows cols s w₀ k).walk ≡ true
+    pub done : going s.limit (after kept rows cols s w₀ (report_of r).tally.passes).walk ≡ false
     -- each pass is a sweep or a drop
-    pub each : r.tally.passes ≡ r.tally.sweeps + r.tally.drops
+    pub each : (report_of r).tally.passes ≡ (report_of r).tally.sweeps + (report_of r).tally.drops
     -- a drop takes one from the range, which begins as c and never falls below 1
-    pub drops : r.tally.drops ≡ card rows cols - r.tally.range
-    pub range : (1 ≤ r.tally.range) × (r.tally.range ≤ card rows cols)
+    pub drops : (report_of r).tally.drops ≡ card rows cols - (report_of r).tally.range
+    pub range : (1 ≤ (report_of r).tally.range) × ((report_of r).tally.range ≤ card rows cols)
     -- none when c is 1, otherwise at most the limit plus the credit times (c - 2)
-    pub none : card rows cols ≡ 1 → r.tally.passes ≡ 0
-    pub most : r.tally.passes ≤ s.limit + s.credit * (card rows cols - 2)
+    pub none : card rows cols ≡ 1 → (report_of r).tally.passes ≡ 0
+    pub most : (report_of r).tally.passes ≤ s.limit + s.credit * (card rows cols - 2)
     -- of its rotations: a drop computes none, a sweep two for each coupling of its range,
     pub turns :
-        (k : ℕ) → k < r.tally.passes →
+        (k : ℕ) → k < (report_of r).tally.passes →
         let t = (after kept rows cols s w₀ k).walk.tally in
         PassCounts (2 * (t.range - 1)) t (after kept rows cols s w₀ (k + 1)).walk.tally
     -- and those told are those computed, each counted once: the moves of its sweeps, carried out one after another on the
@@ -154,17 +152,17 @@ module _ (kept : Bool) (rows cols : ℕ) (s : Settings) (w₀ : Work) (r : Repor
     pub moves :
         let z = packed kept rows cols in
         let form = first kept rows cols s w₀ in
-        let ms = moves_made binary64 z rows cols (settings_of s) r.tally.passes form in
-        (w ≡ carried_out (carried binary64 z) ms form.held) × (r.tally.rotations ≡ length ms)
+        let ms = moves_made binary64 z rows cols (settings_of s) (report_of r).tally.passes form in
+        (w ≡ carried_out (carried binary64 z) ms form.held) × ((report_of r).tally.rotations ≡ length ms)
     -- they are at most 2 x (c - 1) for each sweep, and 13,724,000 in all
-    pub turns-few : r.tally.rotations ≤ 2 * (card rows cols - 1) * r.tally.sweeps
-    pub turns-most : r.tally.rotations ≤ most_rotations
+    pub turns-few : (report_of r).tally.rotations ≤ 2 * (card rows cols - 1) * (report_of r).tally.sweeps
+    pub turns-most : (report_of r).tally.rotations ≤ most_rotations
     -- `settled` says that the range left is 1; where it is more, the limit ran out: `quiet` says that then every coupling
     -- inside the live corner of that range is +0 or -0, `stopped` that one is not
-    pub settled : (r.word ≡ Settled) ↔ (r.tally.range ≡ 1)
-    pub spent : 1 < r.tally.range → s.limit ≤ (after kept rows cols s w₀ r.tally.passes).walk.counter
-    pub quiet : (r.word ≡ Quiet) ↔ ((1 < r.tally.range) × LeftQuiet rows cols r w)
-    pub stopped : (r.word ≡ Stopped) ↔ ((1 < r.tally.range) × (¬ LeftQuiet rows cols r w))
+    pub settled : ((report_of r).word ≡ Report.settled) ↔ ((report_of r).tally.range ≡ 1)
+    pub spent : 1 < (report_of r).tally.range → s.limit ≤ (after kept rows cols s w₀ (report_of r).tally.passes).walk.counter
+    pub quiet : ((report_of r).word ≡ Report.quiet) ↔ ((1 < (report_of r).tally.range) × LeftQuiet rows cols r w)
+    pub stopped : ((report_of r).word ≡ Report.stopped) ↔ ((1 < (report_of r).tally.range) × (¬ LeftQuiet rows cols r w))
 
 -- ---- they hold of every answer
 
@@ -176,7 +174,7 @@ unfolding accepted
 shown kept rows cols s w₀ z n h =
     ap (shown_by rows cols) (accepted-exposed binary64 kept rows cols (settings_of s) w₀ s.limit n h z)
 
-module _ {kept : Bool} {rows cols : ℕ} {s : Settings} {w₀ : Work} {r : Report} {w : Work} where
+module _ {kept : Bool} {rows cols : ℕ} {s : Settings} {w₀ : Work} {r : Answer} {w : Work} where
   pub demand_1 : Allowed kept rows cols s w₀ r w → Demand1 kept rows cols s w₀ r w
   demand_1 a =
       let number = told-number kept rows cols s w₀ r w a.promise in
@@ -190,12 +188,12 @@ module _ {kept : Bool} {rows cols : ℕ} {s : Settings} {w₀ : Work} {r : Repor
         untouched = λ h. lists_of (told-refused kept rows cols s w₀ r w a.promise h);
       }
 
-  pub demand_2 : Allowed kept rows cols s w₀ r w → r.refusal.number ≡ 0 → Demand2 kept rows cols s w₀ r w
+  pub demand_2 : Allowed kept rows cols s w₀ r w → (report_of r).refusal.number ≡ 0 → Demand2 kept rows cols s w₀ r w
   demand_2 a e =
       let q = told-accepted kept rows cols s w₀ r w a.promise e in
       record { equal = q; exposed = λ z n h. q ∙ shown kept rows cols s w₀ z n h }
 
-  pub demand_3 : Allowed kept rows cols s w₀ r w → r.refusal.number ≡ 0 → Demand3 kept rows cols s w₀ r w
+  pub demand_3 : Allowed kept rows cols s w₀ r w → (report_of r).refusal.number ≡ 0 → Demand3 kept rows cols s w₀ r w
   demand_3 a e =
       let t = told-true kept rows cols s w₀ r w a.promise e in
       let word = told-word kept rows cols s w₀ r w a.promise e in
@@ -212,10 +210,10 @@ module _ {kept : Bool} {rows cols : ℕ} {s : Settings} {w₀ : Work} {r : Repor
         moves = told-moves kept rows cols s w₀ r w a.promise e;
         turns-few = t.turns;
         turns-most = told-rotations kept rows cols s w₀ r w a.promise e;
-        settled = told-says kept rows cols s w₀ r w a.promise e Settled word.settled;
+        settled = word.settled;
         spent = told-spent kept rows cols s w₀ r w a.promise e;
-        quiet = told-says kept rows cols s w₀ r w a.promise e Quiet word.quiet;
-        stopped = told-says kept rows cols s w₀ r w a.promise e Stopped word.stopped;
+        quiet = word.quiet;
+        stopped = word.stopped;
       }
 
 -- The square root, of every f64 x and every answer r that the promise of `float::square_root` allows: where x is above
@@ -235,16 +233,16 @@ demand_2_page = page-shows
 
 -- where a call tells number 0, the definition refuses nothing
 told-fine :
-    {kept : Bool} {rows cols : ℕ} {s : Settings} {w₀ : Work} {r : Report} {w : Work} →
-    Allowed kept rows cols s w₀ r w → r.refusal.number ≡ 0 → (refusal_of kept rows cols (settings_of s) w₀).number ≡ 0
+    {kept : Bool} {rows cols : ℕ} {s : Settings} {w₀ : Work} {r : Answer} {w : Work} →
+    Allowed kept rows cols s w₀ r w → (report_of r).refusal.number ≡ 0 → (refusal_of kept rows cols (settings_of s) w₀).number ≡ 0
 told-fine {kept} {rows} {cols} {s} {w₀} {r} {w} a e = sym (told-number kept rows cols s w₀ r w a.promise) ∙ e
 
 -- with U and V kept or not, an accepted run has the same report and the same matrix
 pub kept_or_not :
-    {rows cols : ℕ} {s : Settings} {b₀ u₀ v₀ b u v b' : List Float} {r r' : Report} →
+    {rows cols : ℕ} {s : Settings} {b₀ u₀ v₀ b u v b' : List Float} {r r' : Answer} →
     Allowed true rows cols s (work b₀ u₀ v₀) r (work b u v) →
     Allowed false rows cols s (work b₀ [] []) r' (work b' [] []) →
-    r.refusal.number ≡ 0 →
+    (report_of r).refusal.number ≡ 0 →
     (r ≡ r') × (b ≡ b')
 kept_or_not {rows} {cols} {s} {b₀} {u₀} {v₀} {r = r} {r' = r'} a a' e =
     let q = calls_agree binary64 rows cols (settings_of s) (work b₀ u₀ v₀) (told-fine a e) in
@@ -255,26 +253,26 @@ kept_or_not {rows} {cols} {s} {b₀} {u₀} {v₀} {r = r} {r' = r'} a a' e =
 
 -- a settled answer is, U and V included, the same answer at every greater allowed limit n, all else equal
 pub settled_stands :
-    {kept : Bool} {rows cols n : ℕ} {s s' : Settings} {w₀ w w' : Work} {r r' : Report} →
+    {kept : Bool} {rows cols n : ℕ} {s s' : Settings} {w₀ w w' : Work} {r r' : Answer} →
     Allowed kept rows cols s w₀ r w →
     Allowed kept rows cols s' w₀ r' w' →
     settings_of s' ≡ at_limit n (settings_of s) →
     s.limit ≤ n →
     n ≤ most_limit →
-    r.word ≡ Settled →
+    (report_of r).word ≡ Report.settled →
     (r' ≡ r) × (w' ≡ w)
 settled_stands {kept} {rows} {cols} {n} {s} {s'} {w₀} {w} {w'} {r} {r'} a a' g more most e =
     let p = a.promise in
-    let fine = told-fine a (worded-fine kept rows cols s w₀ r w p Settled e (λ z. omega arith)) in
-    let word = ap (λ (x : Report.Report). x.word) (sym (reports_of p)) ∙ ap word_in e in
+    let fine = told-fine a (worded-fine kept rows cols s w₀ r w p Report.settled e (λ z. omega arith)) in
+    let word = ap (λ (x : Report.Report). x.word) (sym (reports_of p)) ∙ e in
     let same = settled_stays binary64 kept rows cols (settings_of s) w₀ n more most fine word in
     let q = rw g at a'.promise ∙ same ∙ sym p in
     (report_one r' r (reports_of q), lists_of q)
 
 -- which entries make what is left quiet: the couplings inside the corner, and no others
 pub left-quiet_inside :
-    (rows cols : ℕ) (r : Report) (w w' : Work) →
-    ((k : ℕ) → k + 1 < r.tally.range →
+    (rows cols : ℕ) (r : Answer) (w w' : Work) →
+    ((k : ℕ) → k + 1 < (report_of r).tally.range →
     coupling (is_upper rows cols) cols k w.matrix ≡ coupling (is_upper rows cols) cols k w'.matrix) →
     LeftQuiet rows cols r w → LeftQuiet rows cols r w'
 left-quiet_inside rows cols r w w' same q k h = rw (← same k h) (q k h)
@@ -283,38 +281,38 @@ left-quiet_inside rows cols r w w' same q k h = rw (← same k h) (q k h)
 -- drops alone, one for each coupling inside: table, U and V stay as they are, bit for bit. (A coupling of zero is dropped
 -- exactly where its bound is above zero: method's Quiet.Drops, `zero_negligible`.)
 pub quiet_settles :
-    {kept : Bool} {rows cols n : ℕ} {s s' : Settings} {w₀ w w' : Work} {r r' : Report} →
+    {kept : Bool} {rows cols n : ℕ} {s s' : Settings} {w₀ w w' : Work} {r r' : Answer} →
     Allowed kept rows cols s w₀ r w →
     Allowed kept rows cols s' w₀ r' w' →
     settings_of s' ≡ at_limit n (settings_of s) →
     s.limit < n →
     n ≤ most_limit →
-    (s.credit ≡ 0 → s.limit + (r.tally.range - 1) ≤ n) →
-    r.word ≡ Quiet →
-    BoundsAbove binary64 s.tolerance s.absolute cols r.tally.range w.matrix →
-    (report_of r' ≡ settled_report (tally_down (tally_of r.tally))) × (w' ≡ w)
+    (s.credit ≡ 0 → s.limit + ((report_of r).tally.range - 1) ≤ n) →
+    (report_of r).word ≡ Report.quiet →
+    BoundsAbove binary64 s.tolerance s.absolute cols (report_of r).tally.range w.matrix →
+    (report_of r' ≡ settled_report (tally_down ((report_of r).tally))) × (w' ≡ w)
 quiet_settles {kept} {rows} {cols} {n} {s} {s'} {w₀} {w} {w'} {r} {r'} a a' g more most room e above =
     let p = a.promise in
-    let fine = told-fine a (worded-fine kept rows cols s w₀ r w p Quiet e (λ z. omega arith)) in
-    let q = rw g at a'.promise ∙ told-settles kept rows cols s w₀ n more most _ p room fine (ap word_in e) above in
+    let fine = told-fine a (worded-fine kept rows cols s w₀ r w p Report.quiet e (λ z. omega arith)) in
+    let q = rw g at a'.promise ∙ told-settles kept rows cols s w₀ n more most _ p room fine e above in
     (reports_of q, lists_of q)
 
 -- A calm roadway. Where every reading is +0 or -0 and c is above 1, a call that is not refused answers quiet, at every
 -- allowed setting: it swept as often as the limit says and dropped nothing, the whole range is left, and the table is
 -- zeros still.
 pub calm_quiet :
-    {kept : Bool} {rows cols : ℕ} {s : Settings} {w₀ w : Work} {r : Report} →
+    {kept : Bool} {rows cols : ℕ} {s : Settings} {w₀ w : Work} {r : Answer} →
     Allowed kept rows cols s w₀ r w →
-    r.refusal.number ≡ 0 →
+    (report_of r).refusal.number ≡ 0 →
     1 < card rows cols →
     AllZero w₀.matrix →
-    (r.word ≡ Quiet)
-    × (tally_of r.tally ≡ tally_calm s.limit (card rows cols))
+    ((report_of r).word ≡ Report.quiet)
+    × ((report_of r).tally ≡ tally_calm s.limit (card rows cols))
     × AllZero w.matrix
 calm_quiet {kept} {rows} {cols} {s} {w₀} {w} {r} a e more zeros =
     let k : Calm s.limit (card rows cols) (outcome_of (report_of r) w) =
     rw a.promise (calm binary64 kept rows cols (settings_of s) w₀ (told-fine a e) more zeros) in
-    (word_one r.word Quiet k.word, k.tally, k.matrix)
+    (k.word, k.tally, k.matrix)
 
 -- ---- each station keeps its own row, and each pass (method's Rows)
 
@@ -322,12 +320,12 @@ calm_quiet {kept} {rows} {cols} {s} {w₀} {w} {r} a e more zeros =
 -- and where row i of the one U began as row j of the other, it ended as that one did, however the other rows and V
 -- began. The same for V.
 pub own_rows :
-    {rows cols : ℕ} {s : Settings} {w₀ w₀' w w' : Work} {r r' : Report} →
+    {rows cols : ℕ} {s : Settings} {w₀ w₀' w w' : Work} {r r' : Answer} →
     Allowed true rows cols s w₀ r w →
     Allowed true rows cols s w₀' r' w' →
     w₀.matrix ≡ w₀'.matrix →
-    r.refusal.number ≡ 0 →
-    r'.refusal.number ≡ 0 →
+    (report_of r).refusal.number ≡ 0 →
+    (report_of r').refusal.number ≡ 0 →
     (r ≡ r') × OwnRows rows cols w₀ w₀' w w'
 own_rows {rows} {cols} {s} {w₀} {w₀'} {w} {w'} {r} {r'} a a' m e e' =
     let k = calls_own rows cols (settings_of s) w₀ (told-fine a e) binary64 w₀' (told-fine a' e') m in (
@@ -335,8 +333,8 @@ own_rows {rows} {cols} {s} {w₀} {w₀'} {w} {w'} {r} {r'} a a' m e e' =
       rw (lists_of a.promise, lists_of a'.promise) k.1,
     )
 
-module _ {rows cols : ℕ} {s : Settings} {w₀ : Work} {r : Report} {w : Work} (a : Allowed true rows cols s w₀ r w)
-    (e : r.refusal.number ≡ 0) (side : Side) (i : ℕ) (h : i < size_of side rows cols) where
+module _ {rows cols : ℕ} {s : Settings} {w₀ : Work} {r : Answer} {w : Work} (a : Allowed true rows cols s w₀ r w)
+    (e : (report_of r).refusal.number ≡ 0) (side : Side) (i : ℕ) (h : i < size_of side rows cols) where
   -- A row turns on the readings, the settings and where it began, and on nothing else: it is what a run that keeps this
   -- row alone makes of it.
   pub own_row :
@@ -359,10 +357,10 @@ module _ {rows cols : ℕ} {s : Settings} {w₀ : Work} {r : Report} {w : Work} 
 -- Two stations' starting rows exchanged: the second call is not refused either, their final rows are exchanged, and
 -- nothing else changes. The same for two passes.
 pub rows_exchanged :
-    {rows cols : ℕ} {s : Settings} {w₀ w w' : Work} {r r' : Report} (side : Side) (i j : ℕ) →
+    {rows cols : ℕ} {s : Settings} {w₀ w w' : Work} {r r' : Answer} (side : Side) (i j : ℕ) →
     Allowed true rows cols s w₀ r w →
     Allowed true rows cols s (exchanged side rows cols i j w₀) r' w' →
-    r.refusal.number ≡ 0 →
+    (report_of r).refusal.number ≡ 0 →
     i < size_of side rows cols →
     j < size_of side rows cols →
     (r' ≡ r) × (w' ≡ exchanged side rows cols i j w)

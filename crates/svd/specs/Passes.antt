@@ -1,10 +1,8 @@
 -- The walk's record in the code: what a pass asks of it, and what it is after so many passes. Assumes nothing.
-use Rattle.std.specs.Prelude.{◌≡◌, refl, Bool, true, false, ℕ, ◌+◌, ◌-◌, ◌*◌, ◌≤◌, ◌<◌}
-use Rattle.std.proofs.Common.{ap, ◌∙◌, zero-le, le_trans, mul-le-mul_left, mul-le-mul_right, arith, lit<}
+use Rattle.std.specs.Prelude.{◌≡◌, Bool, true, false, ℕ, ◌+◌, ◌-◌, ◌*◌, ◌≤◌, ◌<◌}
+use Rattle.std.proofs.Common.{ap, ◌∙◌, zero-le, le_trans, mul-le-mul_left, arith, lit<}
 use Rattle.std.specs.Float.{binary64}
-use Rattle.method.specs.Work.{Work, Shape as Sizes, coupling_place}
-use Rattle.method.specs.Lengths.{SameLengths}
-use Rattle.method.proofs.Lengths.{onward, swept-lengths}
+use Rattle.method.specs.Work.{Work, Shape as Sizes}
 use Rattle.method.specs.Chase.{negligible, swept}
 use Rattle.method.specs.Walk as Walk
 use Rattle.method.specs.Walk.{State, stands, begun, run, after_drop, after_sweep}
@@ -15,13 +13,13 @@ use Rattle.method.specs.Moves.{sweep_rotations}
 use Rattle.method.proofs.Moves.Laws.{rotations_most_lem}
 use Rattle.method.proofs.Walk.Turns.{AtMost}
 use Rattle.method.specs.Walk.Loop.{Room, Made}
-use Rattle.method.proofs.Walk.Loop.{room-less, made_none, made_drop, made_sweep, made_moved, made_room, made_all, made_end}
+use Rattle.method.proofs.Walk.Loop.{room-less, made_none, made_drop, made_sweep, made_moved, made_room, made_end}
 use Rattle.method.specs.Positions.{Corner, Placed, corner_of, corner_dropped}
 use Rattle.method.proofs.Positions.{start-placed, dropped-placed}
 use Rattle.method.specs.Outcome.{rules_of, card, is_upper, walked_from, rules_for}
-use Rattle.method.specs.Settings.{Settings, most_size, most_stride, most_limit, most_credit, most_passes}
+use Rattle.method.specs.Settings.{Settings, most_size, most_limit, most_credit, most_passes}
 use Rattle.method.specs.Bidiagonal.{bidiagonal}
-use Rattle.svd.specs.Values.{walk_of, corner_in, Lending, lending_kept, Inside, Block}
+use Rattle.svd.specs.Values.{walk_of, corner_in, Inside, Cornered}
 use Rattle.svd.specs.declared.primitives.Walk.{Walk}
 
 -- a record from which n passes may be asked: its range lies in the table, its corner is that of the range, and its counts
@@ -31,26 +29,29 @@ pub record Standing (z : Sizes) (upper : Bool) (n : ℕ) (w : Walk) : Type 0 whe
   pub placed : Placed upper z.stride w.tally.range (corner_in w.corner)
   pub room : Room n (2 * (w.tally.range - 1)) (walk_of w)
 
--- ---- the places of a record of range 2 or more, by its interior
+-- ---- the corner of a record of range 2 or more, by its interior
 
 pub record Here (z : Sizes) (upper : Bool) (w : Walk) : Type 0 where
   pub two : w.tally.range ≡ w.corner.inter + 2
-  pub coupling : w.corner.e1 ≡ coupling_place upper z.stride w.corner.inter
-  pub top_left : w.corner.tl ≡ w.corner.inter * z.stride + w.corner.inter
-  pub bottom_left : w.corner.bl ≡ (w.corner.inter + 1) * z.stride + w.corner.inter
+  pub cornered : Cornered z upper w.corner
 
 pub here :
     (z : Sizes) (upper : Bool) (w : Walk) → Placed upper z.stride w.tally.range (corner_in w.corner) →
-    1 < w.tally.range → Here z upper w
+    Inside z w.tally.range → 1 < w.tally.range → Here z upper w
 unfolding corner_of
-here z upper w p h =
+here z upper w p within h =
     let e = p.placed h in
     let i : w.corner.inter ≡ w.tally.range - 2 = ap (λ (c : Corner). c.inter) e in
+    let two : w.tally.range ≡ w.corner.inter + 2 = omega arith in
     record {
-      two = omega (arith, i);
-      coupling = rw i (ap (λ (c : Corner). c.coupling) e);
-      top_left = rw i (ap (λ (c : Corner). c.top_left) e);
-      bottom_left = rw i (ap (λ (c : Corner). c.bottom_left) e);
+      two = two;
+      cornered =
+          record {
+            inside = record { in_rows = omega (arith, within.in_rows); in_cols = omega (arith, within.in_cols) };
+            coupling = rw i (ap (λ (c : Corner). c.coupling) e);
+            top_left = rw i (ap (λ (c : Corner). c.top_left) e);
+            bottom_left = rw i (ap (λ (c : Corner). c.bottom_left) e);
+          };
     }
 
 -- a record's range is that of the method's record
@@ -59,10 +60,9 @@ ranges w e = ap (λ (k : Walk.Walk). k.tally.range) e
 
 -- ---- the loop
 
--- after `made` turns the lists have their lengths, the places are those of the range, and as many passes have been made
+-- after `made` turns the places are those of the range, and as many passes have been made
 pub record Inv (z : Sizes) (upper : Bool) (n : ℕ) (s : Settings) (first : Walk) (start now : Work) (w : Walk) (made : ℕ) :
     Type 0 where
-  pub same : SameLengths start now
   pub within : made ≤ n
   pub placed : Placed upper z.stride w.tally.range (corner_in w.corner)
   pub by :
@@ -73,7 +73,7 @@ pub inv_start :
     (z : Sizes) (upper : Bool) (n : ℕ) (s : Settings) (first : Walk) (d : Work) →
     Standing z upper n first → Inv z upper n s first d d first 0
 inv_start z upper n s first d q =
-    record { same = record { matrix = refl; u = refl; v = refl }; within = zero-le; placed = q.placed; by = made_none _ _ _ _ }
+    record { within = zero-le; placed = q.placed; by = made_none _ _ _ _ }
 
 module _ {z : Sizes} {upper : Bool} {n : ℕ} {s : Settings} {first : Walk} {start now : Work} {w : Walk} {made : ℕ} (q : Standing z upper n first) (i : Inv z upper n s first start now w made) where
   -- no sweep of the run computes more rotations than one over the first range
@@ -95,7 +95,7 @@ module _ {z : Sizes} {upper : Bool} {n : ℕ} {s : Settings} {first : Walk} {sta
 
   module _ (left : made < n) (wide : 1 < w.tally.range) (below : w.counter < s.limit) where
     places : Here z upper w
-    places = here z upper w i.placed wide
+    places = here z upper w i.placed inv_inside wide
 
     goes : Going s.limit (walk_of w)
     goes = record { wide = wide; below = below }
@@ -112,7 +112,6 @@ module _ {z : Sizes} {upper : Bool} {n : ℕ} {s : Settings} {first : Walk} {sta
         Inv z upper n s first start now w' (made + 1)
     inv_drop {w'} ec eo t =
         record {
-          same = i.same;
           within = omega arith;
           placed = rw (eo, ranges w' ec) (dropped-placed upper z.stride _ _ i.placed);
           by = rw ec (made_drop i.by goes (rw k-is t));
@@ -128,7 +127,6 @@ module _ {z : Sizes} {upper : Bool} {n : ℕ} {s : Settings} {first : Walk} {sta
         Inv z upper n s first start now' w' (made + 1)
     inv_sweep {w'} ec eo en et t =
         record {
-          same = onward i.same (rw en (swept-lengths binary64 z upper w.corner.inter now));
           within = omega arith;
           placed = rw (eo, ranges w' ec) i.placed;
           by = rw (ec, en, et) (rw k-is at (made_sweep i.by goes (rw k-is t)));
@@ -140,41 +138,9 @@ module _ {z : Sizes} {upper : Bool} {n : ℕ} {s : Settings} {first : Walk} {sta
         let within = (made_moved i.by most (omega arith)).range in
         room-less (rw (e, ← k-is) (most w.tally.range wide within)) (room left)
 
-    -- what the test for a drop asks
-    pub test_asks :
-        Lending z start →
-        Block z.stride w.corner.inter w.corner.inter 2 2 now.matrix
-        × (z.stride ≤ most_stride)
-        × (w.corner.e1 ≡ coupling_place upper z.stride w.corner.inter)
-        × (w.corner.tl ≡ w.corner.inter * z.stride + w.corner.inter)
-        × (w.corner.bl ≡ (w.corner.inter + 1) * z.stride + w.corner.inter)
-    test_asks l =
-        let r = l.table in
-        let in_rows : w.corner.inter + 2 ≤ z.rows = omega (arith, places.two, inv_inside.in_rows) in (
-          record {
-            wide = omega (arith, places.two, inv_inside.in_cols, r.wide);
-            few = le_trans in_rows r.rows_few;
-            whole = rw i.same.matrix (le_trans (mul-le-mul_right z.stride in_rows) r.whole);
-          },
-          r.stride_few,
-          places.coupling,
-          places.top_left,
-          places.bottom_left,
-        )
-
-    -- what a sweep asks
-    pub sweep_asks :
-        Lending z start →
-        Inside z (w.corner.inter + 2)
-        × Lending z now
-        × (w.corner.tl ≡ w.corner.inter * z.stride + w.corner.inter)
-        × (w.corner.bl ≡ (w.corner.inter + 1) * z.stride + w.corner.inter)
-    sweep_asks l = (
-      record { in_rows = omega (arith, places.two, inv_inside.in_rows); in_cols = omega (arith, places.two, inv_inside.in_cols) },
-      lending_kept i.same l,
-      places.top_left,
-      places.bottom_left,
-    )
+    -- what the test for a drop and a sweep ask
+    pub corner_asks : Cornered z upper w.corner
+    corner_asks = places.cornered
 
 -- ---- the ways out
 
@@ -183,9 +149,6 @@ module _ {z : Sizes} {upper : Bool} {n : ℕ} {s : Settings} {first : Walk} {sta
   asked =
       run (rules_of binary64 z upper s.tolerance s.absolute) s.limit s.credit n
       (stands (walk_of first) start)
-
-  pub inv_all : n ≤ made → stands (walk_of w) now ≡ asked
-  inv_all h = made_all i.by i.within h
 
   pub inv_narrow : w.tally.range ≤ 1 → stands (walk_of w) now ≡ asked
   inv_narrow h = made_end i.by i.within (narrow s.limit (walk_of w) h)

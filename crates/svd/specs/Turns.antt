@@ -1,15 +1,14 @@
 -- One more turn of the loops that lend the table and both factors on, each list as the code has it. Assumes nothing.
 use Rattle.std.specs.Prelude.{◌≡◌, Bool, true, false, not, List, Float}
 use Rattle.std.proofs.Math.Path.{refl}
-use Rattle.std.proofs.Common.{◌∙◌, arith}
-use Prim.Native.Nat.{ℕ, ◌+◌, ◌-◌, ◌≤◌, ◌<◌, zero-le}
+use Rattle.std.proofs.Common.{◌∙◌}
+use Prim.Native.Nat.{ℕ, ◌+◌, ◌-◌, zero-le}
 use Rattle.std.specs.Float.{binary64}
 use Rattle.method.specs.Work.{Work, work, Shape as Sizes}
 use Rattle.method.proofs.Repeated.{repeated-more}
 use Rattle.method.specs.Bidiagonal.{column_reflection, row_reflection, column_matrix, row_matrix, factor_reflected}
 use Rattle.method.specs.Bidiagonal.{column_zeroed, row_zeroed, first_zeroed, places_zeroed, bidiagonal}
 use Rattle.method.proofs.Bidiagonal.{bidiagonal-other}
-use Rattle.svd.specs.Values.{Inside}
 use Rattle.method.specs.Chase.{pushed, steps}
 use Rattle.method.proofs.Chase.{stepped-is}
 
@@ -68,27 +67,6 @@ module _ (floor : Float) (z : Sizes) where
         upper ≡ false → w₂ ≡ row_zeroed binary64 floor z (c - 1) (c - 1) w₁ → w₂ ≡ bidiagonal binary64 floor z upper c w₀
     last_lower e d = last (rw e d)
 
--- all places of c but the last, and the last
-pub but_last : {z : Sizes} {c : ℕ} → 1 ≤ c → Inside z c → Inside z (c - 1 + 1) × (c - 1 < z.rows) × (c - 1 < z.cols)
-but_last h i = (
-  record { in_rows = omega (arith, i.in_rows); in_cols = omega (arith, i.in_cols) },
-  omega (arith, i.in_rows),
-  omega (arith, i.in_cols),
-)
-
--- a place before the last one, and the next, lie inside
-pub place_inside :
-    {z : Sizes} {k pivot : ℕ} →
-    k < pivot →
-    Inside z (pivot + 1) →
-    (k < z.rows) × (k < z.cols) × (k + 1 < z.rows) × (k + 1 < z.cols)
-place_inside h i = (
-  omega (arith, i.in_rows),
-  omega (arith, i.in_cols),
-  omega (arith, i.in_rows),
-  omega (arith, i.in_cols),
-)
-
 -- ---- a sweep
 
 -- one step more: its two pushes
@@ -100,15 +78,3 @@ pub step_more :
     w₂ ≡ steps binary64 z upper (k + 1) w₀
 unfolding steps
 step_more z upper k w₀ w w₁ w₂ e d₁ d₂ = stepped-is binary64 z upper k w w₁ w₂ d₁ d₂ ∙ repeated-more 0 _ _ _ _ zero-le e
-
--- and the lines that they turn lie inside
-pub step_inside :
-    {z : Sizes} {k interior : ℕ} →
-    k < interior →
-    Inside z (interior + 2) →
-    Inside z (k + 2) × Inside z (k + 3) × Inside z (k + 1 + 2)
-step_inside h i = (
-  record { in_rows = omega (arith, i.in_rows); in_cols = omega (arith, i.in_cols) },
-  record { in_rows = omega (arith, i.in_rows); in_cols = omega (arith, i.in_cols) },
-  record { in_rows = omega (arith, i.in_rows); in_cols = omega (arith, i.in_cols) },
-)

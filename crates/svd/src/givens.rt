@@ -1,12 +1,13 @@
 // Rotations (francis/givens.rs): the rule that makes one, and what it does to two rows or two
 // columns of a row-major table.
+// Kept: pairs go by index: two rows' `iter_mut`, zipped, would lend entries of which no clause says anything.
 ghost use Rattle.std.specs.Prelude.{◌≡◌, ◌+◌, ◌*◌, ◌<◌, length};
 ghost use Rattle.std.specs.Float.{binary64};
 ghost use Rattle.method.specs.Rotation.{rotation_of, pair_turned, rows_turned, columns_turned};
 ghost use Rattle.svd.specs.Values.{rotation, Block};
 
 // Where a rotation takes its two numbers, with its cosine and sine.
-#[derive(Clone, Copy)]
+#[derive(Clone, Copy, Debug, PartialEq)]
 pub struct Rotation {
     pub radius: f64,
     pub cosine: f64,
@@ -31,7 +32,7 @@ pub(crate) fn implicit_givens_rotation(a: f64, b: f64) -> Rotation
         Rotation {
             radius: b * norm,
             cosine: sine * ratio,
-            sine: sine,
+            sine,
         }
     } else {
         let ratio = b / a;
@@ -39,13 +40,14 @@ pub(crate) fn implicit_givens_rotation(a: f64, b: f64) -> Rotation
         let cosine = 1.0 / norm;
         Rotation {
             radius: a * norm,
-            cosine: cosine,
+            cosine,
             sine: cosine * ratio,
         }
     }
 }
 
 // Entries p and q, turned: both from the old values.
+// Kept: one list and two places, as `pair_turned` takes them: two entries of a list are not lent at once.
 fn turn_pair(a: &mut [f64], g: Rotation, p: usize, q: usize)
     requires { (p < length a.old) × (q < length a.old) }
     ensures { a.new ≡ pair_turned binary64 (rotation g) p q a.old }
@@ -57,6 +59,8 @@ fn turn_pair(a: &mut [f64], g: Rotation, p: usize, q: usize)
 }
 
 // Rows i and i + 1, turned in the `range` columns from j on.
+// Kept: the place by four numbers, since a `Window` of two rows or two columns would have one side always 2.
+// Kept: two functions, as `rows_turned` and `columns_turned` of method: one would take two steps besides.
 pub(crate) fn apply_g_left(
     a: &mut [f64],
     g: Rotation,

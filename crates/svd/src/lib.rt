@@ -13,3 +13,5 @@ mod primitives;
 pub mod report;
 mod shape;
 pub mod tally;
+mod window;
+mod work;

@@ -1,5 +1,7 @@
 // The shift of a sweep and the walk's record (svd/primitives.rs). The Rust's six lent counters are
 // one record here: a drop consumes it and hands back the next, and so does a sweep.
+// Kept: a drop lowers each of a Corner's four places, down to 0, as the definition `corner_dropped` has it.
+// Kept: `upper` and `stride` go without a Shape, as `corner_of` and `corner_dropped` of method take them.
 ghost use Rattle.std.specs.Prelude.{◌≡◌, ◌+◌, ◌-◌, ◌*◌, ◌≤◌, ◌<◌};
 ghost use Rattle.std.specs.Float.{binary64};
 ghost use Rattle.method.specs.Chase.{singular};
@@ -23,16 +25,9 @@ pub(crate) fn singular(m00: f64, m01: f64, m10: f64, m11: f64) -> f64
     last + d - float::sign(d) * float::square_root(float::larger(discriminate, 0.0))
 }
 
-// The difference, stopping at 0.
-fn saturating_sub(a: usize, b: usize) -> usize
-    ensures { result ≡ a - b }
-{
-    if b < a { a - b } else { 0 }
-}
-
 // Where the live corner stands: its interior, and the places of the coupling and of the last 2 x 2's
 // left entries.
-#[derive(Clone, Copy)]
+#[derive(Clone, Copy, Debug, PartialEq, Eq)]
 pub struct Corner {
     pub inter: usize,
     pub e1: usize,
@@ -46,23 +41,15 @@ impl Corner {
         requires { (range ≤ most_size) × (stride ≤ most_stride) }
         ensures { corner_in result ≡ corner_of upper stride range }
     {
-        let k = saturating_sub(range, 2);
-        let tl = k * stride + k;
-        let bl = (k + 1) * stride + k;
-        if upper {
-            return Corner {
-                inter: k,
-                e1: k * stride + (k + 1),
-                tl: tl,
-                bl: bl,
-            };
-        }
-        Corner {
-            inter: k,
-            e1: bl,
-            tl: tl,
-            bl: bl,
-        }
+        let inter = range.saturating_sub(2);
+        let tl = inter * stride + inter;
+        let bl = (inter + 1) * stride + inter;
+        let e1 = if upper {
+            inter * stride + (inter + 1)
+        } else {
+            bl
+        };
+        Corner { inter, e1, tl, bl }
     }
 
     // The corner after a drop.
@@ -72,16 +59,16 @@ impl Corner {
     {
         let shift = stride + 1;
         Corner {
-            inter: saturating_sub(self.inter, 1),
-            e1: saturating_sub(self.e1, shift),
-            tl: saturating_sub(self.tl, shift),
-            bl: saturating_sub(self.bl, shift),
+            inter: self.inter.saturating_sub(1),
+            e1: self.e1.saturating_sub(shift),
+            tl: self.tl.saturating_sub(shift),
+            bl: self.bl.saturating_sub(shift),
         }
     }
 }
 
 // The walk's record: what it counts, the counter that the limit bounds, and where the corner stands.
-#[derive(Clone, Copy)]
+#[derive(Clone, Copy, Debug, PartialEq, Eq)]
 pub struct Walk {
     pub tally: Tally,
     pub counter: usize,
@@ -107,12 +94,10 @@ impl Walk {
         ensures { (walk_of result ≡ after_drop credit (walk_of self))
             × (corner_in result.corner ≡ corner_dropped stride (corner_in self.corner)) }
     {
-        let tally = self.tally;
-        let corner = self.corner;
         Walk {
-            tally: tally.dropped(),
-            counter: saturating_sub(self.counter + 1, credit),
-            corner: corner.dropped(stride),
+            tally: self.tally.dropped(),
+            counter: (self.counter + 1).saturating_sub(credit),
+            corner: self.corner.dropped(stride),
         }
     }
 
@@ -122,10 +107,10 @@ impl Walk {
         requires { Room 1 turns (walk_of self) }
         ensures { (walk_of result ≡ after_sweep turns (walk_of self)) × (result.corner ≡ self.corner) }
     {
-        let tally = self.tally;
-        let mut next = self;
-        next.tally = tally.swept(turns);
-        next.counter = self.counter + 1;
-        next
+        Walk {
+            tally: self.tally.swept(turns),
+            counter: self.counter + 1,
+            ..self
+        }
     }
 }

@@ -1,4 +1,6 @@
 // What a walk counts.
+// Kept: a drop and a sweep apart, as `after_drop` and `after_sweep` of method; four must-fail edits are here.
+// Kept: `TallyRoom` is asked, since `tally_dropped` and `tally_swept` add and stop at no largest number.
 ghost use Rattle.std.specs.Prelude.{◌≡◌, ◌≤◌};
 ghost use Rattle.method.specs.Walk.{tally_begun, tally_dropped, tally_swept};
 ghost use Rattle.method.specs.Walk.Loop.{TallyRoom};
@@ -6,7 +8,7 @@ ghost use Rattle.svd.specs.Values.{tally_of};
 
 // The range of the live corner, the passes made so far, each a sweep or a drop, and the rotations
 // that the sweeps computed.
-#[derive(Clone, Copy)]
+#[derive(Clone, Copy, Debug, Default, PartialEq, Eq)]
 pub struct Tally {
     pub range: usize,
     pub passes: usize,
@@ -22,36 +24,29 @@ impl Tally {
     {
         Tally {
             range: card,
-            passes: 0,
-            sweeps: 0,
-            drops: 0,
-            rotations: 0,
+            ..Tally::default()
         }
     }
 
     // After a pass that drops.
-    pub(crate) fn dropped(self) -> Tally
+    pub(crate) fn dropped(mut self) -> Tally
         requires { (1 ≤ self.range) × TallyRoom 1 0 (tally_of self) }
         ensures { tally_of result ≡ tally_dropped (tally_of self) }
     {
-        Tally {
-            range: self.range - 1,
-            passes: self.passes + 1,
-            sweeps: self.sweeps,
-            drops: self.drops + 1,
-            rotations: self.rotations,
-        }
+        self.range -= 1;
+        self.passes += 1;
+        self.drops += 1;
+        self
     }
 
     // After a pass that sweeps, and computes so many rotations.
-    pub(crate) fn swept(self, turns: usize) -> Tally
+    pub(crate) fn swept(mut self, turns: usize) -> Tally
         requires { TallyRoom 1 turns (tally_of self) }
         ensures { tally_of result ≡ tally_swept turns (tally_of self) }
     {
-        let mut next = self;
-        next.passes = self.passes + 1;
-        next.sweeps = self.sweeps + 1;
-        next.rotations = self.rotations + turns;
-        next
+        self.passes += 1;
+        self.sweeps += 1;
+        self.rotations += turns;
+        self
     }
 }

@@ -1,5 +1,5 @@
 -- Laws of fields: what stands before the first `stop`, by the position that the code finds. Assumes nothing.
-use Rattle.std.specs.Prelude.{◌≡◌, get_or, Bool, [], ◌∷◌, ◌++◌, ltb, eqb, take}
+use Rattle.std.specs.Prelude.{◌≡◌, Bool, [], ◌∷◌, ◌++◌, ltb, eqb, take}
 use Rattle.std.proofs.Math.Path.{refl, ap}
 use Rattle.std.proofs.Common.{sym, ◌∙◌, arith, take_all}
 use Rattle.std.proofs.Math.Bool.{true, false}
@@ -8,7 +8,8 @@ use Prim.Native.Nat.{ℕ, suc, ◌+◌, ◌-◌, ◌<◌, ◌≤◌}
 use borrow.Author.Tests.{le-ltb, lt-ltb, le-leb, lt-leb, eq-eqb, ne_eqb, ltb-true, ltb-false, leb-true, leb-false}
 use Rattle.std.proofs.Math.Dec.{leb}
 use Rattle.std.proofs.Math.ListN.{length, drop, length-drop}
-use Rattle.std.proofs.Math.Seq.{drop-drop, drop-cons}
+use Rattle.std.proofs.Math.Seq.{drop-drop}
+use Rattle.std.specs.List.{position_or_len}
 use Rattle.text.specs.Text.{Bytes, ◌>>=◌, cut, found, index_of, index_after}
 use Rattle.text.specs.Code.{cut_at}
 use Rattle.text.proofs.Options.{bind_some}
@@ -36,25 +37,16 @@ module _ (stop at : ℕ) (s : Bytes) where
   pub found-least : at ≤ length s → at ≤ found stop at s
   found-least h = omega (arith, found_inside h)
 
--- the search up to the end is the search
-pub slice_all : (at : ℕ) (s : Bytes) → drop at (take (length s) s) ≡ drop at s
-slice_all at s = rw (take_all (length s) s (omega arith))
-
--- the search from the next byte on, where `stop` is not here
-pub found-next : (stop i : ℕ) (s : Bytes) → i < length s → ¬ (get_or s i 0 ≡ stop) →
-    i + index_of stop (drop i s) ≡ i + 1 + index_of stop (drop (i + 1) s)
+-- the library's search is that search
+pub index_of-position : (stop : ℕ) (s : Bytes) → index_of stop s ≡ position_or_len (λ b. eqb b stop) s
 unfolding index_of index_after
-found-next stop i s h d =
-    let e : drop i s ≡ get_or s i 0 ∷ drop (suc i) s = drop-cons s i 0 h in
-    let n : i + 1 ≡ suc i = omega arith in
-    rw (e, index_of, ne_eqb (get_or s i 0) stop d, n) (omega arith)
-
--- and where it is here
-pub found-here : (stop i : ℕ) (s : Bytes) → i < length s → get_or s i 0 ≡ stop → i + index_of stop (drop i s) ≡ i
-unfolding index_of index_after
-found-here stop i s h d =
-    let e : drop i s ≡ get_or s i 0 ∷ drop (suc i) s = drop-cons s i 0 h in
-    rw (e, index_of, eq-eqb (get_or s i 0) stop d) (omega arith)
+index_of-position stop [] = refl
+index_of-position stop (b ∷ t) = go (eqb b stop) refl (index_of-position stop t)
+  where
+    go : (x : Bool) → eqb b stop ≡ x → index_of stop t ≡ position_or_len (λ c. eqb c stop) t
+        → index_of stop (b ∷ t) ≡ position_or_len (λ c. eqb c stop) (b ∷ t)
+    go true x ih = rw (index_of, x)
+    go false x ih = rw (index_of, x) (omega arith)
 
 -- ---- the bytes before the first stop
 

@@ -12,22 +12,9 @@ use Rattle.text.specs.Text.{Bytes, worth, value, digit, digits}
 -- ---- a byte's worth
 
 module _ (b : ℕ) where
-  -- no byte above F is a digit: a lower-case letter is none
-  pub worth-above : 71 ≤ b → 16 ≡ worth b
-  unfolding worth
-  worth-above g = rw (worth, le-leb 48 b (omega arith), lt-leb b 57 (omega arith), le-leb 65 b (omega arith), lt-leb b 70 (omega arith))
-
-  pub worth-below : b < 48 → 16 ≡ worth b
-  unfolding worth
-  worth-below h = rw (worth, lt-leb 48 b h, lt-leb 65 b (omega arith))
-
   pub worth-decimal : 48 ≤ b → b < 58 → b - 48 ≡ worth b
   unfolding worth
   worth-decimal g h = rw (worth, le-leb 48 b g, le-leb b 57 (omega arith))
-
-  pub worth-between : 58 ≤ b → b < 65 → 16 ≡ worth b
-  unfolding worth
-  worth-between g h = rw (worth, le-leb 48 b (omega arith), lt-leb b 57 (omega arith), lt-leb 65 b (omega arith))
 
   pub worth-letter : 65 ≤ b → b < 71 → b - 55 ≡ worth b
   unfolding worth

@@ -5,5 +5,6 @@ pub mod Digits
 pub mod NumeralLaws
 pub mod Cuts
 pub mod WritingLaws
+pub mod Pages
 pub mod Round
 pub mod Answers

@@ -1,18 +1,16 @@
 -- Laws of numerals: how large a value is, and what the code's ways out say. Assumes nothing.
 use Rattle.std.specs.Prelude.{◌≡◌, Bool, true, false, ◌&&◌, ltb, eqb, get_or, drop}
 use Rattle.std.proofs.Math.Path.{refl, ap}
-use Rattle.std.proofs.Common.{sym, ◌∙◌, arith, mul-le-mul_right, mul_assoc, div-lt_iff_lt-mul, le-div_iff_mul-le}
+use Rattle.std.proofs.Common.{sym, ◌∙◌, arith, mul-le-mul_right, mul_assoc}
 use Rattle.std.proofs.Math.Option.{Option, none, some}
 use mathlib.Core.List.{[], ◌∷◌}
-use Prim.Native.Nat.{ℕ, zero, suc, ◌+◌, ◌-◌, ◌*◌, ◌^◌, ◌/◌, ◌<◌, ◌≤◌}
+use Prim.Native.Nat.{ℕ, zero, suc, ◌+◌, ◌*◌, ◌^◌, ◌<◌, ◌≤◌}
 use Rattle.std.proofs.Math.Nat.{pow-zero, pow-succ', mul-le-mul_left, pow-le-pow_right, one-le-pow}
 use borrow.Author.Tests.{le-ltb, lt-ltb, le-leb, lt-leb, eq-eqb, ne_eqb, ltb-true, ltb-false, leb-true, eqb-true, eqb-false}
 use Rattle.std.proofs.Math.Dec.{leb}
 use Rattle.std.proofs.Math.ListN.{length}
-use Rattle.text.specs.declared.numerals.Number.TheVariants.{Is, Not}
 use Rattle.text.specs.Text.{Bytes, ◌>>=◌, when, worth, value, numeral, decimal, number, pattern}
-use Rattle.text.specs.Code.{number_of, or_zero}
-use Rattle.text.proofs.Options.{bind_some, when-some, and_both, is_some, is_none}
+use Rattle.text.proofs.Options.{bind_some, when-some, and_both}
 use Rattle.text.proofs.Digits.{value-next, value-stop, value-end}
 
 -- ---- how large a value is
@@ -56,27 +54,6 @@ value-below base (b ∷ t) v w e = go (ltb (worth b) base) refl (λ h. value-bel
         → w < (v + 1) * base ^ suc (length t)
     go true x ih = let h : value base (v * base + worth b) t ≡ some w = rw (value, x) at e in more (ltb-true (worth b) base x) (ih h)
     go false x ih = let h : none ≡ some w = rw (value, x) at e in absurd (let z : ◌≡◌ {A = ℕ} 0 1 = cc in omega arith)
-
--- ---- one digit more
-
-module _ (v base d : ℕ) (h : d < base) (b : base ≤ 16) where
-  pub over_small : v < 0x1000_0000_0000_0000 → false ≡ leb (2 ^ 64) (v * base + d)
-  over_small s =
-      let m : v * base ≤ v * 16 = mul-le-mul_left v b in
-      sym (lt-leb (2 ^ 64) (v * base + d) (omega arith))
-
-  pub over_large : ltb ((0xffff_ffff_ffff_ffff - d) / base) v ≡ leb (2 ^ 64) (v * base + d)
-  over_large = go (ltb ((0xffff_ffff_ffff_ffff - d) / base) v) refl
-    where
-      go : (x : Bool) → ltb ((0xffff_ffff_ffff_ffff - d) / base) v ≡ x
-          → ltb ((0xffff_ffff_ffff_ffff - d) / base) v ≡ leb (2 ^ 64) (v * base + d)
-      go true x =
-          let q : 0xffff_ffff_ffff_ffff - d < v * base = (div-lt_iff_lt-mul {k = base} (omega arith)).0 (ltb-true _ v x) in
-          x ∙ sym (le-leb (2 ^ 64) (v * base + d) (omega arith))
-      go false x =
-          let g = ltb-false ((0xffff_ffff_ffff_ffff - d) / base) v x in
-          let q : v * base ≤ 0xffff_ffff_ffff_ffff - d = (le-div_iff_mul-le {k = base} (omega arith)).0 g in
-          x ∙ sym (lt-leb (2 ^ 64) (v * base + d) (omega arith))
 
 -- ---- the value of digits, where it is below 2 ^ 64
 
@@ -141,12 +118,12 @@ module _ (base v : ℕ) (l : Bytes) (i : ℕ) (b : base ≤ 16) (inv : value bas
 -- ---- a number
 
 module _ (most : ℕ) where
-  pub number-empty : (l : Bytes) → length l ≡ 0 → 0 ≡ or_zero (number most l)
+  pub number-empty : (l : Bytes) → length l ≡ 0 → none ≡ number most l
   unfolding number decimal ◌>>=◌
   number-empty [] e = refl
   number-empty (b ∷ t) e = absurd (omega arith)
 
-  pub number-zero : (l : Bytes) → get_or l 0 0 ≡ 48 → 0 ≡ or_zero (number most l)
+  pub number-zero : (l : Bytes) → get_or l 0 0 ≡ 48 → none ≡ number most l
   unfolding number decimal ◌>>=◌ when value worth
   number-zero [] e = absurd (omega arith)
   number-zero (b ∷ []) e = rw e
@@ -158,62 +135,10 @@ module _ (most : ℕ) where
   number-value [] g h = absurd (g refl)
   number-value (b ∷ t) g h = rw (decimal, ne_eqb b 48 h)
 
-  kept : (v : ℕ) → v ≤ most → v ≡ or_zero (when (leb 1 v && leb v most) v)
-  unfolding when
-  kept zero h = refl
-  kept (suc v) h = rw (le-leb 1 (suc v) (omega arith), le-leb (suc v) most h)
-
-  above : (v : ℕ) → most < v → 0 ≡ or_zero (when (leb 1 v && leb v most) v)
+  above : (v : ℕ) → most < v → none ≡ when (leb 1 v && leb v most) v
   unfolding when
   above zero h = refl
   above (suc v) h = rw (le-leb 1 (suc v) (omega arith), lt-leb (suc v) most h)
-
-  -- the three ways out after `value`
-  module _ (l : Bytes) (g : length l ≡ 0 → ⊥) (h : get_or l 0 0 ≡ 48 → ⊥) where
-    valued : (v : ℕ) → Is v ≡ number_of (numeral 10 l) → value 10 0 l ≡ some v
-    valued v e = numeral-some 10 l v (omega arith) (is_some (numeral 10 l) v e)
-
-    pub number_is : (v : ℕ) → Is v ≡ number_of (numeral 10 l) → v ≤ most → v ≡ or_zero (number most l)
-    unfolding ◌>>=◌
-    number_is v e k = rw (number-value l g h, valued v e) (kept v k)
-
-    pub number-over : (v : ℕ) → Is v ≡ number_of (numeral 10 l) → most < v → 0 ≡ or_zero (number most l)
-    unfolding ◌>>=◌
-    number-over v e k = rw (number-value l g h, valued v e) (above v k)
-
-    pub number-not : Not ≡ number_of (numeral 10 l) → most < 2 ^ 64 → 0 ≡ or_zero (number most l)
-    unfolding ◌>>=◌
-    number-not e k = rw (number-value l g h) (go (value 10 0 l) refl)
-      where
-        go : (o : Option ℕ) → value 10 0 l ≡ o → 0 ≡ or_zero (o >>= λ n. when (leb 1 n && leb n most) n)
-        go none f = refl
-        go (some w) f = above w (omega (arith, numeral-none 10 l w (omega arith) (is_none (numeral 10 l) e) f))
-
--- a number is never 0, so 0 says that there is none
-pub number-pos : (most : ℕ) (l : Bytes) (x : ℕ) → x ≡ or_zero (number most l)
-    → (x ≡ 0 → number most l ≡ none) × ((x ≡ 0 → ⊥) → number most l ≡ some x)
-unfolding number when ◌>>=◌
-number-pos most l x e = go (decimal l) refl
-  where
-    test : (n : ℕ) (t : Bool) → (leb 1 n && leb n most) ≡ t → x ≡ or_zero (when t n)
-        → (x ≡ 0 → when t n ≡ none) × ((x ≡ 0 → ⊥) → when t n ≡ some x)
-    test n false h q = ((λ z. refl), (λ z. absurd (z q)))
-    test zero true h q = absurd (let w : false ≡ true = h in let y : ◌≡◌ {A = ℕ} 0 1 = cc in omega arith)
-    test (suc n) true h q = ((λ z. absurd (omega arith)), (λ z. ap some (sym q)))
-
-    go : (o : Option ℕ) → decimal l ≡ o → (x ≡ 0 → number most l ≡ none) × ((x ≡ 0 → ⊥) → number most l ≡ some x)
-    go none h = ((λ z. rw h), (λ z. absurd (z (rw h at e))))
-    go (some n) h =
-        let q : number most l ≡ when (leb 1 n && leb n most) n = rw h in
-        rw q (test n (leb 1 n && leb n most) refl (rw q at e))
-
-pub number-range : (most : ℕ) (l : Bytes) (n : ℕ) → number most l ≡ some n → (1 ≤ n) × (n ≤ most)
-unfolding number
-number-range most l n e =
-    let p = bind_some (decimal l) (λ k. when (leb 1 k && leb k most) k) n e in
-    let q = when-some (leb 1 p.0 && leb p.0 most) p.0 n p.2 in
-    let r = and_both (leb 1 p.0) (leb p.0 most) q.0 in
-    (omega (arith, leb-true 1 p.0 r.0, q.1), omega (arith, leb-true p.0 most r.1, q.1))
 
 -- a first digit that is not 0 is worth at least 1
 worth_first : (b : ℕ) → (b ≡ 48 → ⊥) → 1 ≤ worth b
@@ -241,6 +166,34 @@ first-digit b t w h e = go (ltb (worth b) 10) refl
         omega (arith, value-least 10 t (0 * 10 + worth b) w q)
     go false x = let q : none ≡ some w = rw (value, x) at e in absurd (let z : ◌≡◌ {A = ℕ} 0 1 = cc in omega arith)
 
+-- what a numeral with no leading zero says
+module _ (most : ℕ) (l : Bytes) (p : 0 < length l) (h : get_or l 0 0 ≡ 48 → ⊥) where
+  least : (l : Bytes) (w : ℕ) → 0 < length l → (get_or l 0 0 ≡ 48 → ⊥) → value 10 0 l ≡ some w → 1 ≤ w
+  least [] w p h e = absurd (omega arith)
+  least (b ∷ t) w p h e = omega (arith, first-digit b t w h e, one-le-pow (length t) 10 (omega arith))
+
+  pub number-none : numeral 10 l ≡ none → most < 2 ^ 64 → number most l ≡ none
+  unfolding ◌>>=◌
+  number-none e k = rw (number-value most l (λ z. omega arith) h) (go (value 10 0 l) refl)
+    where
+      go : (o : Option ℕ) → value 10 0 l ≡ o → (o >>= λ n. when (leb 1 n && leb n most) n) ≡ none
+      go none f = refl
+      go (some w) f = sym (above most w (omega (arith, numeral-none 10 l w (omega arith) e f)))
+
+  pub number-some : (v : ℕ) → numeral 10 l ≡ some v → number most l ≡ when (leb v most) v
+  unfolding ◌>>=◌
+  number-some v e =
+      let f = numeral-some 10 l v (omega arith) e in
+      rw (number-value most l (λ z. omega arith) h, f, le-leb 1 v (least l v p h f))
+
+pub number-range : (most : ℕ) (l : Bytes) (n : ℕ) → number most l ≡ some n → (1 ≤ n) × (n ≤ most)
+unfolding number
+number-range most l n e =
+    let p = bind_some (decimal l) (λ k. when (leb 1 k && leb k most) k) n e in
+    let q = when-some (leb 1 p.0 && leb p.0 most) p.0 n p.2 in
+    let r = and_both (leb 1 p.0) (leb p.0 most) q.0 in
+    (omega (arith, leb-true 1 p.0 r.0, q.1), omega (arith, leb-true p.0 most r.1, q.1))
+
 -- a number below 10 ^ k has at most k digits
 pub number_size : (most : ℕ) (l : Bytes) (n k : ℕ) → number most l ≡ some n → most < 10 ^ k → length l ≤ k
 number_size most [] n k e m = omega arith
@@ -257,9 +210,8 @@ number_size most (b ∷ t) n k e m = go (eqb b 48) refl
 
     go : (x : Bool) → eqb b 48 ≡ x → length (b ∷ t) ≤ k
     go true x =
-        let z : 0 ≡ or_zero (number most (b ∷ t)) = number-zero most (b ∷ t) (eqb-true b 48 x) in
-        let y : 0 ≡ n = rw e at z in
-        absurd (omega (arith, range.0))
+        let z : none ≡ some n = number-zero most (b ∷ t) (eqb-true b 48 x) ∙ e in
+        absurd (let y : ◌≡◌ {A = ℕ} 0 1 = cc in omega arith)
     go false x =
         let v = rw (number-value most (b ∷ t) (λ z. omega arith) (eqb-false b 48 x)) at e in
         let p = bind_some (value 10 0 (b ∷ t)) (λ w. when (leb 1 w && leb w most) w) n v in

@@ -1,13 +1,12 @@
 -- Laws of the writing: how many digits a number has, what a writer leaves where there is room and where there is none,
 -- and one text after the other. Assumes nothing.
-use Rattle.std.specs.Prelude.{◌≡◌, refl, Bool, false, [], ◌∷◌, ◌++◌, ℕ, zero, suc, ◌+◌, ◌-◌, ◌*◌, ◌/◌, ◌^◌, ◌<◌, ◌≤◌, ltb, get_or, set, drop}
-use Rattle.std.proofs.Common.{sym, ap, ◌∙◌, add-one, arith, pow-suc, div-lt_iff_lt-mul, lt-ltb, le-ltb, le-leb, ltb-true, ltb-false, leb-true, leb-false, length-append, drop-cons}
+use Rattle.std.specs.Prelude.{◌≡◌, refl, Bool, false, [], ◌∷◌, ◌++◌, ℕ, zero, suc, ◌+◌, ◌-◌, ◌*◌, ◌/◌, ◌^◌, ◌<◌, ◌≤◌, ltb, set}
+use Rattle.std.proofs.Common.{sym, ap, ◌∙◌, add-one, arith, pow-suc, div-lt_iff_lt-mul, le-div_iff_mul-le, lt-ltb, le-ltb, ltb-true, ltb-false, leb-true, leb-false, length-append}
 use Rattle.std.proofs.Math.Bool.{true}
-use Rattle.std.proofs.lemmas.Bool.{lt-leb}
 use Rattle.std.proofs.Math.Dec.{leb}
 use Rattle.std.proofs.Math.ListN.{length}
 use Rattle.std.proofs.lemmas.List.Edits.{sets}
-use Rattle.std.proofs.Math.Seq.{drop-length, length-sets}
+use Rattle.std.proofs.Math.Seq.{length-sets}
 use Rattle.text.specs.Text.{Bytes, space, digits, places_by, shown, Put, leaves, put_at, Written}
 use Rattle.text.proofs.Digits.{sets_append, length_digits}
 use Rattle.text.specs.Writing.{Wrote}
@@ -37,6 +36,15 @@ unfolding places_by
 places-end zero h = refl
 places-end (suc n) h = rw (places_by, lt-ltb (suc n) 10 h)
 
+-- one more than the greatest power of ten that is not above n
+pub places-power : (k n : ℕ) → 10 ^ k ≤ n → n < 10 * 10 ^ k → places_by n n ≡ k + 1
+places-power zero n g h = places-end n (omega arith)
+places-power (suc k) n g h =
+    let p : 10 ^ suc k ≡ 10 ^ k * 10 = pow-suc 10 k in
+    let l : 10 ^ k ≤ n / 10 = (le-div_iff_mul-le {k = 10} (omega arith)).1 (omega arith) in
+    let m : n / 10 < 10 * 10 ^ k = (div-lt_iff_lt-mul {k = 10} (omega arith)).1 (omega arith) in
+    omega (arith, places-next n (omega arith), places-power k (n / 10) l m)
+
 pub length-shown : (n : ℕ) → length (shown n) ≡ places_by n n
 unfolding shown
 length-shown n = length_digits 10 (places_by n n) n
@@ -54,25 +62,7 @@ places-most (suc k) n h = go (ltb n 10) refl (places-most k (n / 10))
         let d : n / 10 < 10 ^ suc k = (div-lt_iff_lt-mul {k = 10} (omega arith)).1 g in
         omega (arith, places-next n (ltb-false n 10 x), ih d)
 
--- ---- bytes stored one by one
-pub sets_next : (s out : Bytes) (at i : ℕ) → i < length s
-    → sets out (at + i) (drop i s) ≡ sets (set out (at + i) (get_or s i 0)) (at + (i + 1)) (drop (i + 1) s)
-sets_next s out at i h =
-    let y : suc (at + i) ≡ at + suc i = omega arith in
-    rw (add-one i, drop-cons s i 0 h, ← y)
-
-pub sets_end : (s out : Bytes) (at i : ℕ) → i ≡ length s → sets out at (drop i s) ≡ out
-sets_end s out at i e = rw (e, drop-length)
-
 -- ---- what a writer leaves
-
--- the code's test for room
-pub room-left : (n at k : ℕ) → at ≤ n → leb k (n - at) ≡ leb (at + k) n
-room-left n at k h = go (leb (at + k) n) refl
-  where
-    go : (x : Bool) → leb (at + k) n ≡ x → leb k (n - at) ≡ leb (at + k) n
-    go true x = le-leb k (n - at) (omega (arith, leb-true (at + k) n x)) ∙ sym x
-    go false x = lt-leb k (n - at) (omega (arith, leb-false (at + k) n x)) ∙ sym x
 
 -- s has k bytes; they were stored where there is room for k bytes, and nothing was where there is none
 module _ (at k : ℕ) (s l : Bytes) (n : length s ≡ k) where

@@ -2,3 +2,4 @@
 pub mod Text
 pub mod Code
 pub mod Writing
+pub mod Page

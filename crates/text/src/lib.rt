@@ -4,4 +4,5 @@
 
 pub mod fields;
 pub mod numerals;
+pub mod page;
 pub mod writing;

@@ -1,106 +1,71 @@
 // Digits and numerals.
-ghost use Rattle.std.specs.Prelude.{◌≡◌, ◌+◌, ◌*◌, ◌^◌, ◌<◌, ◌≤◌, leb};
+ghost use Rattle.std.specs.Prelude.{◌≡◌, ◌<◌, IfSome, unwrap_or};
 ghost use Rattle.text.specs.Text.{worth as worthOf, numeral, number, pattern as patternIn};
 ghost use Rattle.text.specs.Text.{digit as digitOf, places_by};
-ghost use Rattle.text.specs.Code.{number_of, or_zero};
+ghost use Rattle.text.specs.Code.{option_of};
 
-// What a numeral says.
-#[derive(Clone, Copy)]
-pub enum Number {
-    Is(u64),
-    Not,
-}
-
-// What a byte is worth as a digit: 0 to 9, or A to F; 16 where it is no digit.
-pub fn worth(b: u8) -> u64
-    ensures { result ≡ worthOf b }
+// What a byte is worth as a digit: 0 to 9, or A to F.
+// Kept: char::to_digit takes lower case too, and char::from_digit gives it; digits are upper case here.
+#[tactic(auto, unfolding(crate::specs::Text::worth))]
+pub fn worth(b: u8) -> Option<u64>
+    ensures value { unwrap_or result 16 ≡ worthOf b }
+    ensures digit { IfSome result (λ d. d < 16) }
 {
-    if b < 48 {
-        return 16;
+    match b {
+        b'0'..=b'9' => Some((b - b'0') as u64),
+        b'A'..=b'F' => Some((b - b'A') as u64 + 10),
+        _ => None,
     }
-    if b < 58 {
-        return (b - 48) as u64;
-    }
-    if b < 65 {
-        return 16;
-    }
-    if b < 71 {
-        return (b - 55) as u64;
-    }
-    16
 }
 
-// Whether v and a digit d after it are more than 64 bits hold. Only a large v is worth a division.
-fn over(v: u64, base: u64, d: u64) -> bool
-    requires { (d < base) × (base ≤ 16) }
-    ensures { result ≡ leb (2 ^ 64) (v * base + d) }
-{
-    if v < 0x1000_0000_0000_0000 {
-        return false;
-    }
-    (0xffff_ffff_ffff_ffff - d) / base < v
-}
-
-// The value of the digits l in a base of at most 16; of no digits it is 0. Not where a byte is no
+// The value of the digits l in a base of at most 16; of no digits it is 0. None where a byte is no
 // digit of the base, where the value is 2^64 or more, and where the base is above 16.
-pub fn value(l: &[u8], base: u64) -> Number
-    ensures { result ≡ number_of (numeral base l.now) }
+// Kept: u64::from_str_radix takes a sign and lower case, and refuses no digits, which are 0 here.
+pub fn value(l: &[u8], base: u64) -> Option<u64>
+    ensures { option_of result ≡ numeral base l.now }
 {
     if base > 16 {
-        return Number::Not;
+        return None;
     }
     let mut v: u64 = 0;
-    let mut i = 0;
-    while i < l.len() {
-        let d = worth(l[i]);
+    for b in l {
+        let d = worth(*b)?;
         if base <= d {
-            return Number::Not;
+            return None;
         }
-        if over(v, base, d) {
-            return Number::Not;
-        }
-        v = v * base + d;
-        i += 1;
+        v = v.checked_mul(base)?.checked_add(d)?;
     }
-    Number::Is(v)
+    Some(v)
 }
 
-// The number from 1 to `most` that l says in decimal, with no zero before it; 0 where it says none.
-pub fn whole(l: &[u8], most: u64) -> u64
-    ensures { result ≡ or_zero (number most l.now) }
+// The number from 1 to `most` that l says in decimal, with no zero before it.
+pub fn whole(l: &[u8], most: u64) -> Option<u64>
+    ensures { option_of result ≡ number most l.now }
 {
-    if l.len() == 0 {
-        return 0;
+    if *l.first()? == b'0' {
+        return None;
     }
-    if l[0] == 48 {
-        return 0;
-    }
-    match value(l, 10) {
-        Number::Is(v) => { if v <= most { v } else { 0 } }
-        Number::Not => 0,
-    }
+    value(l, 10).filter(|v| *v <= most)
 }
 
-// The 64 bits that l says in 16 digits of base 16; Not where it is anything else.
-pub fn pattern(l: &[u8]) -> Number
-    ensures { result ≡ number_of (patternIn l.now) }
+// The 64 bits that l says in 16 digits of base 16.
+// Kept: bits and no double: this crate stands on no other, and so not on float.
+pub fn pattern(l: &[u8]) -> Option<u64>
+    ensures { option_of result ≡ patternIn l.now }
 {
-    if l.len() == 16 {
-        value(l, 16)
-    } else {
-        Number::Not
-    }
+    if l.len() == 16 { value(l, 16) } else { None }
 }
 
 // The byte of a digit.
+#[tactic(auto, unfolding(crate::specs::Text::digit))]
 pub(crate) fn digit(d: u64) -> u8
     requires { d < 16 }
     ensures { result ≡ digitOf d }
 {
     if d < 10 {
-        48 + (d as u8)
+        b'0' + d as u8
     } else {
-        55 + (d as u8)
+        b'A' + (d - 10) as u8
     }
 }
 
@@ -108,11 +73,5 @@ pub(crate) fn digit(d: u64) -> u8
 pub fn places(n: u64) -> usize
     ensures { result ≡ places_by n n }
 {
-    let mut rest = n;
-    let mut k = 1;
-    while rest >= 10 {
-        rest = rest / 10;
-        k += 1;
-    }
-    k
+    n.checked_ilog10().unwrap_or(0) as usize + 1
 }

@@ -5,123 +5,73 @@
 // was not found, and how many were compared.
 #![tactic(auto)]
 
-ghost use Rattle.std.specs.Prelude.{◌≡◌, ◌+◌, ◌≤◌, ◌<◌, length};
+ghost use Rattle.std.specs.Prelude.{◌<◌, IfSome, length};
 
-use console::{print_decimal, read_full};
+use console::read_full;
 use score::Score;
 use std::io;
 use std::io::Write;
 use survey::ROOM;
-use text::numerals::{Number, value};
+use text::numerals::value;
 
 // Room for the list and more: one that filled it would end within a text.
-fn whole() -> [u8; 500000]
-    ensures { 500000 ≡ length result }
-{
-    [0; 500000]
+const WHOLE: usize = 500000;
+
+// How many bytes the line before a text has.
+const HEAD: usize = 16;
+
+// A text and its answer, and the line that has their sizes.
+#[derive(Clone, Copy)]
+struct Piece<'a> {
+    head: &'a [u8; HEAD],
+    text: &'a [u8],
+    answer: &'a [u8],
 }
 
-// Room for what is printed of a text.
-fn blank() -> [u8; ROOM]
-    ensures { 314000 ≡ length result }
-{
-    [0; ROOM]
-}
+impl Piece<'_> {
+    // The piece that the list begins with, and what follows it; None where no sizes stand there or the
+    // list ends before they do.
+    fn cut(list: &[u8]) -> Option<(Piece<'_>, &[u8])>
+        ensures { IfSome result (λ r. length r.1.now < length list.now) }
+    {
+        let (head, rest) = list.split_first_chunk::<HEAD>()?;
+        let (text, rest) = rest.split_at_checked(value(&head[2..8], 10)? as usize)?;
+        let (answer, rest) = rest.split_at_checked(value(&head[9..15], 10)? as usize)?;
+        Some((Piece { head, text, answer }, rest))
+    }
 
-// The number that six digits from `at` on say; 999,999 where they are none.
-fn number(list: &[u8], at: usize) -> usize
-    requires { at + 6 ≤ length list.now }
-    ensures { result < 1000000 }
-{
-    let end = at + 6;
-    match value(&list[at..end], 10) {
-        Number::Is(n) => n as usize,
-        Number::Not => 999999,
+    // Whether the line is well formed and what is printed of the text is the answer.
+    fn agrees(self) -> bool {
+        let Piece { head, text, answer } = self;
+        if [head[1], head[8], head[15]] != *b"  \n" {
+            return false;
+        }
+        let mut out = [0; ROOM];
+        let n = survey::split_text(text, &mut out);
+        &out[..n] == answer
     }
 }
 
-// Where the answer of the text whose line stands at `at` ends; the list's end where it would end
-// beyond that.
-fn end_of(list: &[u8], at: usize) -> usize
-    requires { at < length list.now }
-    ensures { (at < result) × (result ≤ length list.now) }
-{
-    if list.len() - at < 16 {
-        return list.len();
-    }
-    let n = number(list, at + 2);
-    let k = number(list, at + 9);
-    if list.len() - at - 16 < n + k {
-        return list.len();
-    }
-    at + 16 + n + k
-}
-
-// Whether what is printed of the text is the answer.
-fn agrees(text: &[u8], answer: &[u8]) -> bool {
-    let mut out = blank();
-    let n = survey::split_text(text, &mut out);
-    &out[..n] == answer
-}
-
-// Whether the piece is the sizes, a text and its answer, and they agree.
-fn piece_agrees(piece: &[u8]) -> bool {
-    if piece.len() < 16 {
-        return false;
-    }
-    if piece[1] != b' ' || piece[8] != b' ' || piece[15] != b'\n' {
-        return false;
-    }
-    let n = 16 + number(piece, 2);
-    let k = n + number(piece, 9);
-    if k != piece.len() {
-        return false;
-    }
-    agrees(&piece[16..n], &piece[n..])
-}
-
-// A number and the words behind it.
-fn print<W: Write>(out: &mut W, number: u64, words: &[u8]) -> io::Result<()> {
-    print_decimal(out, number)?;
-    out.write_all(words)
-}
-
-// Compares a piece and counts it. Prints its number, among the right or the wrong ones, where it is
-// not as told.
-fn step<W: Write>(out: &mut W, piece: &[u8], score: Score) -> io::Result<Score>
-    requires { 0 < length piece.now }
-{
-    let wrong = piece[0] == b'!';
-    let same = piece_agrees(piece);
-    let next = score.counted(wrong, same);
-    if wrong && same {
-        print(out, next.wrong, b" is wrong on purpose and was not found\n")?;
-    }
-    if !wrong && !same {
-        print(out, next.right, b" differs\n")?;
-    }
-    Ok(next)
-}
-
-// Compares every text of the list; a rest that is no text with its answer counts as one.
+// Compares every text of the list; a rest that is no text with its answer counts as one that differs.
+// Kept: a while: each piece says how long it is, so no iterator of std cuts the list.
 fn compare<W: Write>(out: &mut W, list: &[u8]) -> io::Result<Score> {
     let mut score = Score::new();
-    let mut at = 0;
-    while at < list.len() {
-        let end = end_of(list, at);
-        score = step(out, &list[at..end], score)?;
-        at = end;
+    let mut left = list;
+    while !left.is_empty() {
+        let wrong = left[0] == b'!';
+        let (same, rest) = match Piece::cut(left) {
+            Some((piece, rest)) => (piece.agrees(), rest),
+            None => (false, &left[left.len()..]),
+        };
+        score.judge(out, wrong, same)?;
+        left = rest;
     }
     Ok(score)
 }
 
 fn main(rt: HostRuntime) -> io::Result<()> {
-    let mut out = rt.stdout();
-    let mut list = whole();
+    let mut list = [0; WHOLE];
     let n = read_full(&mut rt.stdin(), &mut list)?;
-    let score = compare(&mut out, &list[..n])?;
-    print(&mut out, score.right, b" texts compared, ")?;
-    print(&mut out, score.differ, b" differ; ")?;
-    print(&mut out, score.wrong, b" wrong on purpose, ")?;
-    print(&mut out, score.found, b" found\n")
+    let score = compare(&mut rt.stdout(), &list[..n])?;
+    println!(rt; "{} texts compared, {score}", score.right)
 }

@@ -6,34 +6,49 @@
 #![tactic(auto)]
 
 mod bits;
+mod lists;
 mod replay;
 mod stored;
 mod totals;
 
-use crate::replay::{Seen, next_run};
+use crate::bits::Stop;
+use crate::replay::replayed;
+use crate::stored::Head;
 use crate::totals::Totals;
 use std::io;
 use std::io::{Read, Write};
 
-// Replays the next run and counts it.
-fn step<R: Read, W: Write>(input: &mut R, out: &mut W, totals: Totals) -> io::Result<Totals> {
-    match next_run(input)? {
-        Seen::End => Ok(totals.ended()),
-        Seen::Malformed(wrong) => totals.malformed(out, wrong),
-        Seen::Run(made) => totals.counted(out, made),
+// Replays the next run and counts it; whether the input goes on.
+fn step<R: Read, W: Write>(input: &mut R, out: &mut W, totals: &mut Totals) -> io::Result<bool> {
+    let (wrong, run) = match Head::read(input) {
+        Ok(None) => return Ok(false),
+        Ok(Some(head)) => (head.is_wrong(), replayed(input, &head)),
+        Err(stop) => (false, Err(stop)),
+    };
+    match run {
+        Ok(made) => {
+            totals.count(out, made)?;
+            Ok(true)
+        }
+        Err(Stop::Malformed) => {
+            totals.judge(out, wrong, false)?;
+            Ok(false)
+        }
+        Err(Stop::Io(error)) => Err(error),
     }
 }
 
-// A proved loop has to end, and nothing says that the input does: so the turns are counted down from
-// a number that no input uses up.
+// A proved loop has to end, and nothing says that the input does: so there are no more turns than a
+// number that no input uses up.
+// Kept: so a `for` to that number with a break stands for a `loop`.
 fn main(rt: HostRuntime) -> io::Result<()> {
     let mut input = rt.stdin();
     let mut out = rt.stdout();
-    let mut totals = Totals::new();
-    let mut turns = u64::MAX;
-    while turns > 0 && totals.more {
-        totals = step(&mut input, &mut out, totals)?;
-        turns -= 1;
+    let mut totals = Totals::default();
+    for _ in 0..u64::MAX {
+        if !step(&mut input, &mut out, &mut totals)? {
+            break;
+        }
     }
-    totals.print(&mut out)
+    writeln!(out, "{totals}")
 }

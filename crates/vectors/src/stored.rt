@@ -9,222 +9,297 @@
 //   differ: how many of the run's calls have to differ from what follows; 0, or 1 to 3 where the run
 //     is wrong on purpose;
 //   the matrix, and with start 1, U and V; the list of values is not stored;
-//   the answer: the report's words, in the order of `words_of`;
+//   the answer: the report's words, in the order of `Answer`;
 //   with number 0 the matrix, U and V afterwards; else they are as they were;
 //   with kept 2 or 5 the ordered call's answer likewise;
 //   with number 0 the list of values, U and V after it, where the matrix is the accumulating call's;
 //   with 12 or 13 matrix, U and V are the accumulating call's; else they are as they were.
-ghost use Rattle.std.specs.Prelude.{◌≡◌, ◌≤◌, length};
-
-use crate::bits::{decode, word};
+use crate::bits::{Stop, read_words};
+use crate::lists::{List, Lists, Sizes};
+use checks::place::Place;
+use checks::refusal::Refusal;
 use checks::settings::Settings;
-use console::read_full;
 use factors::identity::identity_flat;
-use std::io;
+use order::ordered::Unordered;
 use std::io::Read;
-use svd::report::Report;
+use svd::report::{Report, word_number};
 
-// What is asked of the calls, and how long the lists are.
+// What the calls are made by: settings, or a profile's number.
+#[derive(Clone, Copy)]
+pub(crate) enum By {
+    Settings(Settings),
+    Profile(usize),
+}
+
+// The calls, each beside those before it.
+#[derive(Clone, Copy, PartialEq, Eq)]
+pub(crate) enum Call {
+    Plain,
+    Full,
+    Ordered,
+}
+
+impl TryFrom<u64> for Call {
+    type Error = Stop;
+
+    fn try_from(word: u64) -> Result<Call, Stop> {
+        match word {
+            0 => Ok(Call::Plain),
+            1 => Ok(Call::Full),
+            2 => Ok(Call::Ordered),
+            _ => Err(Stop::Malformed),
+        }
+    }
+}
+
+// What U and V start as.
+#[derive(Clone, Copy)]
+pub(crate) enum Start {
+    Identity,
+    Stored,
+}
+
+impl TryFrom<u64> for Start {
+    type Error = Stop;
+
+    fn try_from(word: u64) -> Result<Start, Stop> {
+        match word {
+            0 => Ok(Start::Identity),
+            1 => Ok(Start::Stored),
+            _ => Err(Stop::Malformed),
+        }
+    }
+}
+
+// What is asked of the calls, of which kept is the last that is made, and how long the lists are.
 #[derive(Clone, Copy)]
 pub(crate) struct Head {
     pub(crate) rows: usize,
     pub(crate) cols: usize,
-    pub(crate) settings: Settings,
-    // Whether the calls are made by a profile's number, and that number.
-    pub(crate) by: bool,
-    pub(crate) profile: usize,
-    // 0, 1 or 2, by settings or by a profile.
-    pub(crate) kept: u64,
-    pub(crate) start: u64,
-    pub(crate) matrix: usize,
-    pub(crate) u: usize,
-    pub(crate) v: usize,
-    pub(crate) values: usize,
+    pub(crate) by: By,
+    pub(crate) kept: Call,
+    start: Start,
+    sizes: Sizes,
+    // How many of the calls have to differ.
     pub(crate) differ: u64,
 }
 
-// The words of a report as they are stored, which are ten: `words_of` lists them.
-pub(crate) type Answer = [u8; 80];
-
-// What was found where a head should be.
-#[derive(Clone, Copy)]
-pub(crate) enum Found {
-    End,
-    Malformed,
-    Head(Head),
-}
-
-// Room for the words of a head.
-fn head_room() -> [u8; 112]
-    ensures { 112 ≡ length result }
-{
-    [0; 112]
-}
-
-// Room for the words of an answer.
-pub(crate) fn answer_room() -> Answer
-    ensures { 80 ≡ length result }
-{
-    [0; 80]
-}
-
-// Room for the words of the longest list.
-fn list_room() -> [u8; 19208]
-    ensures { 19208 ≡ length result }
-{
-    [0; 19208]
-}
-
-// The settings of a head's words.
-fn settings_of(bytes: &[u8]) -> Settings
-    requires { 112 ≤ length bytes.now }
-{
-    Settings {
-        limit: word(bytes, 16) as usize,
-        credit: word(bytes, 24) as usize,
-        tolerance: float::from_bits(word(bytes, 32)),
-        absolute: float::from_bits(word(bytes, 40)),
-        floor: float::from_bits(word(bytes, 48)),
-    }
-}
-
-// The head of its words.
-fn head_of(bytes: &[u8]) -> Head
-    requires { 112 ≤ length bytes.now }
-{
-    let settings = settings_of(bytes);
-    let stored = word(bytes, 56);
-    let by = stored > 2;
-    Head {
-        rows: word(bytes, 0) as usize,
-        cols: word(bytes, 8) as usize,
-        settings: settings,
-        by: by,
-        profile: settings.limit,
-        kept: if by { stored - 3 } else { stored },
-        start: word(bytes, 64),
-        matrix: word(bytes, 72) as usize,
-        u: word(bytes, 80) as usize,
-        v: word(bytes, 88) as usize,
-        values: word(bytes, 96) as usize,
-        differ: word(bytes, 104),
-    }
-}
-
-// The words of a report, the number first: the one list of them.
-fn words_of(r: Report) -> [u64; 10] {
-    let word = r.word;
-    [
-        r.refusal.number as u64,
-        r.refusal.place.row as u64,
-        r.refusal.place.column as u64,
-        r.refusal.place.bad as u64,
-        word.number(),
-        r.tally.passes as u64,
-        r.tally.sweeps as u64,
-        r.tally.drops as u64,
-        r.tally.range as u64,
-        r.tally.rotations as u64,
-    ]
-}
-
-// The refusal's number in an answer.
-pub(crate) fn number_in(answer: &Answer) -> u64 {
-    word(answer, 0)
-}
-
-// Whether the report's words are the answer's.
-pub(crate) fn report_agrees(report: Report, answer: &Answer) -> bool {
-    let words = words_of(report);
-    let mut i = 0;
-    while i < 10 {
-        if words[i] != word(answer, 8 * i) {
-            return false;
-        }
-        i += 1;
-    }
-    true
-}
-
-// Whether only the limit's word is used of the settings, as it is for a profile's number.
-fn one_word(s: Settings) -> bool {
-    s.credit == 0 && s.tolerance == 0.0 && s.absolute == 0.0 && s.floor == 0.0
-}
-
-// Whether a head is one that is stored: the plain call has no U and V, and only the ordered one has a
-// list of values; with a profile there are no settings.
-fn is_fit(head: Head) -> bool {
-    if head.by && !one_word(head.settings) {
-        return false;
-    }
-    if head.kept == 0 {
-        return head.start == 0 && head.u == 0 && head.v == 0 && head.values == 0;
-    }
-    if head.kept == 1 {
-        return head.start <= 1 && head.values == 0;
-    }
-    head.kept == 2 && head.start <= 1
-}
-
-// Reads the next head.
-pub(crate) fn read_head<R: Read>(input: &mut R) -> io::Result<Found> {
-    let mut bytes = head_room();
-    let n = read_full(input, &mut bytes)?;
-    if n == 0 {
-        return Ok(Found::End);
-    }
-    if n < 112 {
-        return Ok(Found::Malformed);
-    }
-    let head = head_of(&bytes);
-    if is_fit(head) {
-        Ok(Found::Head(head))
+// By the profile whose number stands in the place of the limit, with 0 for the other settings.
+// Kept: compared with a Settings of zeros, as many zeros would stand here.
+fn profile_in(settings: Settings) -> Result<By, Stop> {
+    let Settings {
+        limit,
+        credit,
+        tolerance,
+        absolute,
+        floor,
+    } = settings;
+    if credit == 0 && tolerance == 0.0 && absolute == 0.0 && floor == 0.0 {
+        Ok(By::Profile(limit))
     } else {
-        Ok(Found::Malformed)
+        Err(Stop::Malformed)
     }
 }
 
-// Reads the next answer; whether it is there.
-pub(crate) fn read_answer<R: Read>(input: &mut R, answer: &mut Answer) -> io::Result<bool> {
-    Ok(read_full(input, answer)? == 80)
+impl TryFrom<[u64; 14]> for Head {
+    type Error = Stop;
+
+    fn try_from(words: [u64; 14]) -> Result<Head, Stop> {
+        let [
+            rows,
+            cols,
+            limit,
+            credit,
+            tolerance,
+            absolute,
+            floor,
+            kept,
+            start,
+            matrix,
+            u,
+            v,
+            values,
+            differ,
+        ] = words;
+        let settings = Settings {
+            limit: limit as usize,
+            credit: credit as usize,
+            tolerance: float::from_bits(tolerance),
+            absolute: float::from_bits(absolute),
+            floor: float::from_bits(floor),
+        };
+        let (by, kept) = if kept < 3 {
+            (By::Settings(settings), kept)
+        } else {
+            (profile_in(settings)?, kept - 3)
+        };
+        let head = Head {
+            rows: rows as usize,
+            cols: cols as usize,
+            by,
+            kept: Call::try_from(kept)?,
+            start: Start::try_from(start)?,
+            sizes: Sizes {
+                matrix: matrix as usize,
+                u: u as usize,
+                v: v as usize,
+                values: values as usize,
+            },
+            differ,
+        };
+        if head.is_fit() {
+            Ok(head)
+        } else {
+            Err(Stop::Malformed)
+        }
+    }
 }
 
-// Fills the list from the next words, for which there is just the room; whether they are there.
-fn read_by<R: Read>(input: &mut R, room: &mut [u8], list: &mut [f64]) -> io::Result<bool> {
-    let n = read_full(input, room)?;
-    Ok(n == room.len() && decode(room, list))
+impl Head {
+    // Reads the next head; None where the input has ended.
+    pub(crate) fn read<R: Read>(input: &mut R) -> Result<Option<Head>, Stop> {
+        read_words(input)?.map(Head::try_from).transpose()
+    }
+
+    // Whether there are no more lists than the calls are lent: the plain call has no U and V, and only
+    // the ordered one has a list of values.
+    fn is_fit(&self) -> bool {
+        let Sizes { u, v, values, .. } = self.sizes;
+        match (self.kept, self.start) {
+            (Call::Plain, Start::Identity) => u == 0 && v == 0 && values == 0,
+            (Call::Plain, Start::Stored) => false,
+            (Call::Full, _) => values == 0,
+            (Call::Ordered, _) => true,
+        }
+    }
+
+    // Whether the run is wrong on purpose.
+    pub(crate) fn is_wrong(&self) -> bool {
+        self.differ > 0
+    }
+
+    // Reads what the lists are before the calls.
+    pub(crate) fn read_lists<R: Read>(&self, input: &mut R) -> Result<Lists, Stop> {
+        let mut lists = Lists::blank(self.sizes)?;
+        lists.matrix.read(input)?;
+        match (self.kept, self.start) {
+            (Call::Plain, _) => {}
+            (_, Start::Identity) => {
+                fill(&mut lists.u, self.rows)?;
+                fill(&mut lists.v, self.cols)?;
+            }
+            (_, Start::Stored) => lists.read_factors(input)?,
+        }
+        Ok(lists)
+    }
 }
 
-// Fills the list from the next words; whether they are there.
-pub(crate) fn read_list<R: Read>(input: &mut R, list: &mut [f64]) -> io::Result<bool> {
-    let mut room = list_room();
-    if list.len() > 2401 {
-        return Ok(false);
-    }
-    let n = 8 * list.len();
-    read_by(input, &mut room[..n], list)
+// Fills the list with the identity, which has to be as long.
+fn fill(list: &mut List, size: usize) -> Result<(), Stop> {
+    identity_flat(list.as_mut_slice(), size).map_err(|_| Stop::Malformed)
 }
 
-// Fills U and V with the identity; whether they are as long as it is.
-fn fill(u: &mut [f64], v: &mut [f64], head: Head) -> bool {
-    if identity_flat(u, head.rows) != 0 {
-        return false;
+// The words of a report as they are stored, the number first.
+// Kept: words and no enum, since each may be wrong on purpose and then say what no call answers.
+// Kept: the Answer of app is a struct of C; limits and survey lay the same words out as text.
+#[derive(Clone, Copy, PartialEq, Eq)]
+pub(crate) struct Answer([u64; 10]);
+
+impl From<Result<Report, Unordered>> for Answer {
+    fn from(answer: Result<Report, Unordered>) -> Answer {
+        match answer {
+            Ok(report) => Answer::of_run(0, report),
+            Err(Unordered::Refused(refusal)) => Answer::of_refusal(refusal),
+            Err(Unordered::NotSettled(report)) => Answer::of_run(12, report),
+            Err(Unordered::NotFinite(report)) => Answer::of_run(13, report),
+        }
     }
-    identity_flat(v, head.cols) == 0
 }
 
-// Makes U and V what they are at the start; whether that can be.
-pub(crate) fn begin<R: Read>(
-    input: &mut R,
-    u: &mut [f64],
-    v: &mut [f64],
-    head: Head,
-) -> io::Result<bool> {
-    if head.kept > 0 && head.start == 0 {
-        return Ok(fill(u, v, head));
+impl Answer {
+    // Of a run, with the number of what it was refused by after it.
+    fn of_run(number: u64, report: Report) -> Answer {
+        let Report { word, tally } = report;
+        Answer([
+            number,
+            0,
+            0,
+            0,
+            word_number(Some(word)),
+            tally.passes as u64,
+            tally.sweeps as u64,
+            tally.drops as u64,
+            tally.range as u64,
+            tally.rotations as u64,
+        ])
     }
-    if !read_list(input, u)? {
-        return Ok(false);
+
+    // Of a call that was refused before the run.
+    fn of_refusal(refusal: Refusal) -> Answer {
+        let Place { row, column, bad } = refusal.place();
+        let number = refusal.number() as u64;
+        let word = word_number(None);
+        Answer([
+            number,
+            row as u64,
+            column as u64,
+            bad as u64,
+            word,
+            0,
+            0,
+            0,
+            0,
+            0,
+        ])
     }
-    read_list(input, v)
+
+    // Reads the next answer.
+    pub(crate) fn read<R: Read>(input: &mut R) -> Result<Answer, Stop> {
+        read_words(input)?.map(Answer).ok_or(Stop::Malformed)
+    }
+
+    // The refusal's number, 0 where there is none.
+    pub(crate) fn number(&self) -> u64 {
+        self.0[0]
+    }
+}
+
+// What a call answers, and what it leaves.
+#[derive(Clone, Copy)]
+pub(crate) struct Outcome {
+    pub(crate) answer: Answer,
+    pub(crate) lists: Lists,
+}
+
+impl Outcome {
+    // Reads what the first call on these lists comes to: the accumulating one, or the plain one where
+    // that alone is made.
+    pub(crate) fn read_first<R: Read>(input: &mut R, before: &Lists) -> Result<Outcome, Stop> {
+        let answer = Answer::read(input)?;
+        let mut lists = *before;
+        if answer.number() == 0 {
+            lists.matrix.read(input)?;
+            lists.read_factors(input)?;
+        }
+        Ok(Outcome { answer, lists })
+    }
+
+    // Reads what the ordered call comes to, of whose lists these are what they were before it and what
+    // the accumulating call leaves.
+    pub(crate) fn read_ordered<R: Read>(
+        input: &mut R,
+        before: &Lists,
+        full: &Lists,
+    ) -> Result<Outcome, Stop> {
+        let answer = Answer::read(input)?;
+        let mut lists = match answer.number() {
+            0 | 12 | 13 => *full,
+            _ => *before,
+        };
+        if answer.number() == 0 {
+            lists.values.read(input)?;
+            lists.read_factors(input)?;
+        }
+        Ok(Outcome { answer, lists })
+    }
 }

@@ -1,18 +1,27 @@
 -- `profile_full_svd_decomposition` meets its contract: refused, or the call with the profile's settings. Assumes nothing.
+use mathlib.Core.Path.{refl}
 use mathlib.Core.Bool.{true}
+use Rattle.std.proofs.lemmas.Result.{err_from_is_err_and}
 use Rattle.method.specs.Work.{work}
-use Rattle.by_profile.specs.Ways.{way_none, way_settings}
+use Rattle.checks.specs.Refused.{refused_some}
+use Rattle.by_profile.specs.Ways.{or_first, none_by_ten, way_none, way_settings}
 use Rattle.by_profile.proofs.profile_full_svd_decomposition.Goals as goal
 
-pub returns-then-picked-ne0 : goal.returns-then-picked-ne0
-returns-then-picked-ne0 c =
-    way_none true c.args.rows c.args.cols c.args.profile
-    (work c.args.b.now c.args.u.now c.args.v.now)
-    _ c.pick-picked.ensures _ c.if-picked-ne0.true
-    c.table_refusal-lent.ensures c.none_such.ensures c.refused.ensures
+pub returns-in_err-table_refusal-in-Err : goal.returns-in_err-table_refusal-in-Err
+returns-in_err-table_refusal-in-Err c =
+    let p = err_from_is_err_and c.from_residual.result c.from_residual.ensures.1 in
+    rw (p.1, p.2)
+    (way_none true c.args.rows c.args.cols c.args.profile (work c.args.b.now c.args.u.now c.args.v.now)
+    _ c.in-Err.ensures _ (refused_some _)
+    c.in_err-table_refusal-in-Err.ensures (or_first _ _ (refused_some _)) refl)
 
-pub returns : goal.returns
-returns c =
-    way_settings true c.args.rows c.args.cols c.args.profile
-    (work c.args.b.now c.args.u.now c.args.v.now)
-    _ c.pick-picked.ensures _ c.if-picked-ne0.false c.full_svd_decomposition.ensures
+pub returns-in_ok-table_refusal-in-Err : goal.returns-in_ok-table_refusal-in-Err
+returns-in_ok-table_refusal-in-Err c =
+    way_none true c.args.rows c.args.cols c.args.profile (work c.args.b.now c.args.u.now c.args.v.now)
+    _ c.in-Err.ensures _ (refused_some _)
+    c.in_ok-table_refusal-in-Err.ensures (none_by_ten _ _ c.in-Err.ensures) refl
+
+pub returns-in-Ok : goal.returns-in-Ok
+returns-in-Ok c =
+    way_settings true c.args.rows c.args.cols c.args.profile (work c.args.b.now c.args.u.now c.args.v.now)
+    _ c.in-Ok.ensures _ refl c.full_svd_decomposition.ensures

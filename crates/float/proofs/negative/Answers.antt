@@ -1,20 +1,11 @@
--- `float::negative` meets its contract: the highest bit of the pattern. Assumes nothing.
-use mathlib.Core.Path.{◌≡◌, refl, sym}
-use mathlib.Core.Bool.{false}
-use Rattle.method.specs.Floats.{negative}
-use Rattle.method.proofs.Nans.{at-nan, no_nan}
-use Rattle.float.proofs.Signs.{held, bits-signed}
+-- `float::negative` meets its contract: the library's test is the definition, and a NaN has no sign. Assumes nothing.
+use mathlib.Core.Path.{sym, ◌∙◌}
+use Rattle.float.proofs.Signs.{sign_negative_is, nan_unsigned}
 use Rattle.float.proofs.negative.Goals as goal
 
-pub returns-then-x : goal.returns-then-x
-unfolding negative
-returns-then-x c = at-nan (λ x. false ≡ negative x) c.args.x c.if-x.true refl
+pub returns-then-not-is_nan : goal.returns-then-not-is_nan
+returns-then-not-is_nan c = c.is_sign_negative.ensures ∙ sign_negative_is c.args.x
 
-pub float_to_bits-result : goal.float_to_bits-result
-float_to_bits-result c = no_nan c.args.x c.if-x.false
-
-pub returns : goal.returns
-returns c =
-    sym
-    (bits-signed c.args.x (held c.args.x c.well_formed.0.1)
-    (no_nan c.args.x c.if-x.false))
+pub returns-else-not-is_nan : goal.returns-else-not-is_nan
+returns-else-not-is_nan c =
+    rw c.if-not-is_nan.false (nan_unsigned c.args.x (sym c.is_nan.ensures.value ∙ c.if-not-is_nan.false))

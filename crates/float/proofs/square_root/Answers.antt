@@ -1,49 +1,37 @@
--- `float::square_root` meets its contract: zeros, infinity and what is below zero by their patterns, the rest by
+-- `float::square_root` meets its contract: a NaN, zeros and the infinity as they are, the NaN below zero, the rest by
 -- `root_bits`. Assumes nothing.
-use Prim.Native.Nat.{◌^◌, ◌*◌}
-use mathlib.Core.Path.{◌≡◌, refl, ◌∙◌}
+use mathlib.Core.Path.{sym, ◌∙◌}
 use native.Mathlib.Omega.{arith}
-use lib.Ieee.{binary64, of_bits, neg}
-use borrow.Author.Rules.{rules}
-use Rattle.method.specs.Root.{square_root}
-use Rattle.method.proofs.Nans.{at-nan, no_nan, bits-no_nan}
+use Rattle.method.proofs.Floats.{plus_zero-64}
+use Rattle.method.proofs.Nans.{bits-no_nan}
+use Rattle.float.proofs.Root.{zero_stays}
 use Rattle.float.proofs.Signs.{held}
-use Rattle.float.proofs.Patterns.{zero_by_zero}
-use Rattle.float.proofs.Cases.{at-pattern, at-positive, at-negative}
+use Rattle.float.proofs.Cases.{at-positive, bits_left, nan-stays, infinity-stays, below_zero}
+use Rattle.float.proofs.square_root.Goals.{then-is_nan-via-then-is_nan, then-is_nan-via-else-is_nan+then-x, then-is_nan-via-else-is_nan+else-x+then-x-2}
+use Rattle.float.proofs.square_root.Goals.{Else-x-3}
 use Rattle.float.proofs.square_root.Goals as goal
 
-pub returns-then-x : goal.returns-then-x
-unfolding square_root
-returns-then-x c = at-nan (λ x. x ≡ square_root binary64 x) c.args.x c.if-x.true refl
+pub returns-then-is_nan : goal.returns-then-is_nan
+returns-then-is_nan c =
+    let x = c.args.x in
+    elim c.then-is_nan.branch [
+      | then-is_nan-via-then-is_nan w ↦ nan-stays x (sym c.is_nan.ensures.value ∙ w.if-is_nan.true)
+      | then-is_nan-via-else-is_nan+then-x w ↦ sym (zero_stays x (rw plus_zero-64 at w.if-x.true))
+      | then-is_nan-via-else-is_nan+else-x+then-x-2 w ↦ infinity-stays x w.if-x-2.true
+    ]
 
-pub float_to_bits-bits : goal.float_to_bits-bits
-float_to_bits-bits c = no_nan c.args.x c.if-x.false
-
-pub returns-then-bits : goal.returns-then-bits
-unfolding square_root of_bits neg
-returns-then-bits c =
-    at-pattern (λ x. neg (of_bits binary64 0) ≡ square_root binary64 x) c.args.x (2 ^ 63) (held c.args.x c.well_formed.0.1) c.if-bits.true refl
-
-pub returns-then-bits-gt9218868437227405312 : goal.returns-then-bits-gt9218868437227405312
-returns-then-bits-gt9218868437227405312 c =
-    zero_by_zero ∙ at-negative c.args.x (held c.args.x c.well_formed.0.1) (no_nan c.args.x c.if-x.false) c.if-bits-gt9218868437227405312.true c.if-bits.false
-
-pub returns-then-bits-eq0 : goal.returns-then-bits-eq0
-unfolding square_root of_bits
-returns-then-bits-eq0 c =
-    at-pattern (λ x. of_bits binary64 0 ≡ square_root binary64 x) c.args.x 0 (held c.args.x c.well_formed.0.1) c.if-bits-eq0.true refl
-
-pub returns-then-bits-eq9218868437227405312 : goal.returns-then-bits-eq9218868437227405312
-unfolding square_root of_bits
-returns-then-bits-eq9218868437227405312 c =
-    at-pattern (λ x. x ≡ square_root binary64 x) c.args.x (2047 * 2 ^ 52) (held c.args.x c.well_formed.0.1) c.if-bits-eq9218868437227405312.true refl
+pub returns-then-x-3 : goal.returns-then-x-3
+returns-then-x-3 c = below_zero c.args.x (rw plus_zero-64 at c.if-x-3.true)
 
 pub root_bits-requires : goal.root_bits-requires
-root_bits-requires c = search rules
+root_bits-requires c =
+    bits_left c.args.x (held c.args.x c.well_formed.0.1) (sym c.is_nan.ensures.value ∙ c.if-is_nan.false)
+    (rw plus_zero-64 at c.if-x.false) c.if-x-2.false (rw plus_zero-64 at c.if-x-3.false)
 
 pub float_from_bits-result : goal.float_from_bits-result
 float_from_bits-result c = bits-no_nan c.root_bits.result (omega (arith, c.root_bits.ensures.0))
 
 pub returns : goal.returns
 returns c =
-    c.root_bits.ensures.1 ∙ at-positive c.args.x (held c.args.x c.well_formed.0.1) (omega arith) (omega arith)
+    let b = root_bits-requires (goal.at.returns c).Else-x-3 in
+    c.root_bits.ensures.1 ∙ at-positive c.args.x (held c.args.x c.well_formed.0.1) b.0 b.1

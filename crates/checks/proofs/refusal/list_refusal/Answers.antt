@@ -6,9 +6,9 @@ use Rattle.checks.proofs.refusal.list_refusal.Goals as goal
 pub returns-then-wrong_length : goal.returns-then-wrong_length
 returns-then-wrong_length c =
     let test = rw c.smaller_size-whole.ensures at c.wrong_length.ensures in
-    c.by.ensures ∙ sym (first-hit _ _ (sym test ∙ c.if-wrong_length.true))
+    sym (first-hit _ _ (sym test ∙ c.if-wrong_length.true))
 
 pub returns : goal.returns
 returns c =
     let test = rw c.smaller_size-whole.ensures at c.wrong_length.ensures in
-    c.by-2.ensures ∙ sym (first-miss _ _ (sym test ∙ c.if-wrong_length.false) ∙ first-none)
+    sym (first-miss _ _ (sym test ∙ c.if-wrong_length.false) ∙ first-none)

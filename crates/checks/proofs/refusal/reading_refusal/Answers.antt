@@ -15,4 +15,4 @@ pub returns : goal.returns
 returns c =
     let found = c.bad_readings-place.ensures in
     let none = ap (λ (p : Place). p.bad) found in
-    c.by.ensures ∙ sym (first-miss _ _ (rw none at (le-ltb _ _ c.if-place-gt0.false)) ∙ first-none)
+    sym (first-miss _ _ (rw none at (le-ltb _ _ c.if-place-gt0.false)) ∙ first-none)

@@ -4,17 +4,15 @@ use Rattle.method.proofs.Checks.First.{first-hit, first-miss, first-none}
 use Rattle.checks.proofs.refusal.setting_refusal.Goals as goal
 
 pub returns-then-over_limit : goal.returns-then-over_limit
-returns-then-over_limit c = c.by.ensures ∙ sym (first-hit _ _ (sym c.over_limit.ensures ∙ c.if-over_limit.true))
+returns-then-over_limit c = sym (first-hit _ _ (sym c.over_limit.ensures ∙ c.if-over_limit.true))
 
 pub returns-then-bounds_unfit : goal.returns-then-bounds_unfit
 returns-then-bounds_unfit c =
-    c.by-then-bounds_unfit.ensures
-    ∙ sym (first-miss _ _ (sym c.over_limit.ensures ∙ c.if-over_limit.false)
+    sym (first-miss _ _ (sym c.over_limit.ensures ∙ c.if-over_limit.false)
     ∙ first-hit _ _ (sym c.bounds_unfit.ensures ∙ c.if-bounds_unfit.true))
 
 pub returns : goal.returns
 returns c =
-    c.by-2.ensures
-    ∙ sym (first-miss _ _ (sym c.over_limit.ensures ∙ c.if-over_limit.false)
+    sym (first-miss _ _ (sym c.over_limit.ensures ∙ c.if-over_limit.false)
     ∙ first-miss _ _ (sym c.bounds_unfit.ensures ∙ c.if-bounds_unfit.false)
     ∙ first-none)

@@ -1,17 +1,19 @@
 -- `table_refusal` meets its contract: of two lists of checks, one after the other, the first that refuses is in the first
 -- list that has one. Assumes nothing.
 use mathlib.Core.Path.{refl}
+use Rattle.std.proofs.lemmas.Result.{err_from_is_err_and}
 use Rattle.method.proofs.Checks.First.{first-here, first-beyond}
 use Rattle.method.proofs.Checks.Table.{sizes-passed}
+use Rattle.checks.specs.Refused.{refused_some}
 use Rattle.checks.proofs.refusal.table_refusal.Goals as goal
 
-pub returns-then-of_sizes-ne0 : goal.returns-then-of_sizes-ne0
-returns-then-of_sizes-ne0 c = first-here _ _ refl c.size_refusal-of_sizes.ensures c.if-of_sizes-ne0.true
+pub returns-in_err-size_refusal : goal.returns-in_err-size_refusal
+returns-in_err-size_refusal c =
+    let p = err_from_is_err_and c.from_residual.result c.from_residual.ensures.1 in
+    rw (p.1, p.2) (first-here _ _ refl c.in_err-size_refusal.ensures (refused_some _))
 
 pub length_refusal-requires : goal.length_refusal-requires
-length_refusal-requires c = sizes-passed _ _ c.size_refusal-of_sizes.ensures c.if-of_sizes-ne0.false
+length_refusal-requires c = sizes-passed _ _ c.in_ok-size_refusal.ensures refl
 
 pub returns : goal.returns
-returns c =
-    first-beyond _ _ refl c.size_refusal-of_sizes.ensures c.if-of_sizes-ne0.false
-    c.length_refusal.ensures
+returns c = first-beyond _ _ refl c.in_ok-size_refusal.ensures refl c.length_refusal.ensures

@@ -18,38 +18,6 @@ loop-i-init c = (omega arith, c.nowhere-found.ensures ∙ repeated-none 0 _ nowh
 pub loop-j-init : goal.loop-j-init
 loop-j-init c = (omega arith, repeated-none 0 _ _)
 
-pub overflow_mul-i : goal.overflow_mul-i
-overflow_mul-i c =
-    let row : let args = c.args in (c.loop-i.i * args.cols + args.cols ≤ args.rows * args.cols) × (args.rows * args.cols ≤ most_size * most_size) = (
-      row_in c.loop-i.i c.args.rows c.args.cols (omega arith),
-      mul-le-mul c.requires.1 c.requires.2,
-    ) in
-    record { fits = omega (arith, row.0, row.1) }
-
-pub overflow_add-i : goal.overflow_add-i
-overflow_add-i c =
-    let row : let args = c.args in (c.loop-i.i * args.cols + args.cols ≤ args.rows * args.cols) × (args.rows * args.cols ≤ most_size * most_size) = (
-      row_in c.loop-i.i c.args.rows c.args.cols (omega arith),
-      mul-le-mul c.requires.1 c.requires.2,
-    ) in
-    omega (arith, row.0, row.1)
-
-pub offset_bounds-b-i : goal.offset_bounds-b-i
-offset_bounds-b-i c =
-    let row : let args = c.args in (c.loop-i.i * args.cols + args.cols ≤ args.rows * args.cols) × (args.rows * args.cols ≤ most_size * most_size) = (
-      row_in c.loop-i.i c.args.rows c.args.cols (omega arith),
-      mul-le-mul c.requires.1 c.requires.2,
-    ) in
-    omega (arith, row.0)
-
-pub bounds-b-i : goal.bounds-b-i
-bounds-b-i c =
-    let row : let args = c.args in (c.loop-i.i * args.cols + args.cols ≤ args.rows * args.cols) × (args.rows * args.cols ≤ most_size * most_size) = (
-      row_in c.loop-i.i c.args.rows c.args.cols (omega arith),
-      mul-le-mul c.requires.1 c.requires.2,
-    ) in
-    omega (arith, row.0)
-
 -- fewer were counted than there are readings
 pub looked-found-requires : goal.looked-found-requires
 looked-found-requires c =
@@ -80,7 +48,3 @@ unfolding bad_readings
 loop-i-preserved c =
     let e = le_antisymm c.loop-j.invariant.0 c.loop-j-test.false in
     (omega arith, rw e at c.loop-j.invariant.1 ∙ repeated-more 0 _ _ _ _ zero-le c.loop-i.invariant.1)
-
-pub returns : goal.returns
-returns c =
-    rw (le_antisymm c.loop-i.invariant.0 c.loop-i-test.false) at c.loop-i.invariant.1

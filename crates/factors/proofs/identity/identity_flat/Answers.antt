@@ -1,6 +1,5 @@
 -- `identity_flat` meets its contract: one check after another, then the zeros and the ones. Assumes nothing.
 use native.Mathlib.Omega.{arith}
-use Rattle.method.proofs.Index.{few}
 use Rattle.method.specs.Fill.Numbers.{FillFit}
 use Rattle.method.proofs.Fill.Numbers.{fill_one, fill_two, fill_four}
 use Rattle.factors.specs.Fill.{fill_with, fill_done}
@@ -14,17 +13,10 @@ pub returns-then-n-gt-MOST_SIZE : goal.returns-then-n-gt-MOST_SIZE
 returns-then-n-gt-MOST_SIZE c =
     fill_with _ 2 _ (omega arith) (fill_two c.args.n c.args.a.now (omega arith) c.if-n-gt-MOST_SIZE.true)
 
-pub overflow_mul-n : goal.overflow_mul-n
-overflow_mul-n c =
-    record { fits = omega (arith, few c.args.n c.args.n (omega arith) (omega arith)) }
-
 pub returns-then-a-n : goal.returns-then-a-n
 returns-then-a-n c =
     fill_with _ 4 _ (omega arith)
     (fill_four c.args.n c.args.a.now (omega arith) (omega arith) c.if-a-n.true)
-
-pub ones-requires : goal.ones-requires
-ones-requires c = (omega arith, c.zeros.ensures)
 
 pub returns : goal.returns
 returns c =

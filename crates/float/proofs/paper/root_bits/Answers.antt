@@ -12,25 +12,25 @@ use Rattle.float.proofs.paper.root_bits.Goals as goal
 -- what the root is rounded to is what the page's last line is
 rounded-is :
     (c : goal.After-rounded) →
-    c.rounded.result ≡ rounded (turns 54 (first 54 c.started-start.result.number)).root
-rounded-is c = c.rounded.ensures ∙ ap (λ (l : Line). rounded l.root) c.turns-last.ensures
+    c.rounded.result ≡ rounded (turns 54 (first 54 c.of-start.result.number)).root
+rounded-is c = c.rounded.ensures ∙ ap (λ (l : Line). rounded l.root) c.after-last.ensures
 
 -- and no more than 53 digits and a carry
 kept : (c : goal.After-rounded) → c.rounded.result ≤ 2 ^ 53
 kept c =
     le_trans (le_of_eq (rounded-is c))
-    (last_room c.started-start.result.number c.started-start.ensures.0)
+    (last_room c.of-start.result.number c.of-start.ensures.0)
 
-pub turns-last-requires : goal.turns-last-requires
-turns-last-requires c = (c.started-start.ensures.0, omega arith)
+pub after-last-requires : goal.after-last-requires
+after-last-requires c = (c.of-start.ensures.0, omega arith)
 
 pub overflow_add-result : goal.overflow_add-result
-overflow_add-result c = omega (arith, kept c, c.started-start.ensures.1)
+overflow_add-result c = omega (arith, kept c, c.of-start.ensures.1)
 
 pub returns : goal.returns
 returns c =
-    let s = c.started-start.result in
-    let e = c.started-start.ensures in
+    let s = c.of-start.result in
+    let e = c.of-start.ensures in
     let b = c.args.bits in (
       omega (arith, kept c, e.1),
       joined b _ c.requires.1 e.2

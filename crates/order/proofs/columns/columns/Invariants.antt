@@ -1,6 +1,5 @@
 -- `columns` meets its contract: after i turns the first i rows are rewritten, and the others are as they were. Assumes
 -- nothing.
-use Prim.Native.Nat.{◌-◌, ◌≤◌}
 use mathlib.Core.Path.{◌≡◌}
 use lib.ListN.{length, get_or, take}
 use Rattle.method.specs.Floats.{signed_if}
@@ -9,11 +8,7 @@ use Rattle.order.proofs.columns.columns.Given as goal
 
 abbrev pub invariant-loop-i : goal.invariant-loop-i
 invariant-loop-i l =
-    (l.i ≤ l.n)
-    × (length l.a ≡ length l.initial.a)
+    (length l.a ≡ length l.initial.a)
     × (length l.w ≡ 48)
-    × (l.a ≡ rows_moved l.n l.c (λ k. get_or (take l.c l.p) k 0) (λ k x. signed_if l.signs (diagonal l.cols l.b (get_or (take l.c l.p) k 0)) x)
+    × (l.a ≡ rows_moved l.n l.d.c (λ k. get_or (take l.d.c l.p) k 0) (λ k x. signed_if l.signs (diagonal l.d.cols l.d.b.now (get_or (take l.d.c l.p) k 0)) x)
     l.initial.a l.i)
-
-abbrev pub decreases-loop-i : goal.decreases-loop-i
-decreases-loop-i l = l.n - l.i

@@ -1,7 +1,7 @@
 -- `write_row` meets its contract: after k turns the first k entries of the row are written. Assumes nothing.
-use Prim.Native.Nat.{◌+◌, ◌-◌, ◌≤◌}
+use Prim.Native.Nat.{◌+◌}
 use mathlib.Core.Path.{◌≡◌}
-use lib.ListN.{length, get_or, take}
+use lib.ListN.{get_or, take}
 use lib.Ieee.{nan}
 use Rattle.method.specs.Floats.{signed_if}
 use Rattle.method.proofs.Writes.{writes}
@@ -10,10 +10,5 @@ use Rattle.order.proofs.columns.write_row.Given as goal
 
 abbrev pub invariant-loop-k : goal.invariant-loop-k
 invariant-loop-k l =
-    (l.k ≤ l.c)
-    × (length l.a ≡ length l.initial.a)
-    × (l.a ≡ writes (λ k'. l.at + k')
-    (λ k'. signed_if l.signs (diagonal l.cols l.b (get_or (take l.c l.p) k' 0)) (get_or l.w (get_or (take l.c l.p) k' 0) nan)) l.k l.initial.a)
-
-abbrev pub decreases-loop-k : goal.decreases-loop-k
-decreases-loop-k l = l.c - l.k
+    l.a ≡ writes (λ k'. l.at + k')
+    (λ k'. signed_if l.signs (diagonal l.d.cols l.d.b.now (get_or (take l.d.c l.p) k' 0)) (get_or l.w (get_or (take l.d.c l.p) k' 0) nan)) l.k l.initial.a

@@ -1,88 +1,35 @@
--- `survey::reading::body` meets its contract: what is left of the body, stored from where reading stands, gives the whole body; the measure is how many rows are left. Assumes nothing.
-use mathlib.Core.Option.{Option, none, some}
-use mathlib.Core.Bool.{Bool, true, false}
-use mathlib.Core.Path.{◌≡◌, sym, ap, ◌∙◌}
-use Prim.Native.Nat.{ℕ, ◌+◌, ◌-◌, ◌*◌, ◌<◌}
-use native.Mathlib.Omega.{arith}
-use lib.ListN.{drop, length}
+-- `survey::reading::body` meets its contract: a law for each way out, and for one row more. Assumes nothing.
+use Rattle.std.proofs.Common.{◌≡◌, ◌+◌, ◌-◌, ◌*◌, ap, ◌∙◌, arith, rules, Err}
+use Rattle.std.proofs.Math.Option.{none, some}
+use Rattle.survey.specs.Code.{row_stored}
 use Rattle.survey.proofs.Bodies.{body-none, body-bad, body-next, body_end, body-stored, room}
-use Rattle.text.specs.Text.{when}
-use Rattle.survey.specs.Code.{placed}
-use Rattle.text.proofs.Cuts.{found-least}
 use Rattle.survey.proofs.reading.body.Goals as goal
-
-taken : {A : Type 0} (r : Bool) (a : A) (o : Option A) → r ≡ true → when r a ≡ o → some a ≡ o
-unfolding when
-taken r a o e h = rw e at h
-
-left : {A : Type 0} (r : Bool) (a : A) (o : Option A) → r ≡ false → when r a ≡ o → none ≡ o
-unfolding when
-left r a o e h = rw e at h
 
 pub loop-j-init : goal.loop-j-init
 loop-j-init c =
-    let args = c.args in
-    let y : args.rows - 0 ≡ args.rows = omega arith in
-    let z : args.n + 0 ≡ args.n = omega arith in
-    (omega arith, omega arith, omega (arith, ap (λ (z : ℕ). z * (args.c + 1)) y), rw (y, z) (body-stored _ _ _ _ _ _))
+    let y : c.args.rows - 0 ≡ c.args.rows = omega arith in
+    (omega arith, omega (arith, ap (λ z. z * (c.args.c + 1)) y), rw y (body-stored _ _ _ _ _ _))
 
-pub returns-then-end-text : goal.returns-then-end-text
-unfolding placed
-returns-then-end-text c =
-    let at-loop = c.loop-j in
-    (sym (body-none _ _ _ _ _ _ _ _ _ c.find-end.ensures.0 c.loop-j-test.true c.requires.2 c.if-end-text.true) ∙ at-loop.invariant.3, omega arith, omega arith, omega arith)
+pub returns-in_err-row-clause-body : goal.returns-in_err-row-clause-body
+returns-in_err-row-clause-body c =
+    let e : c.from_residual.result ≡ Err c.in_err-row.field-0.0 = search rules in
+    rw (e, c.in_err-row.ensures.1) (body-none _ _ _ _ _ _ _ c.loop-j-test.true c.in_err-row.ensures.0 ∙ c.loop-j.invariant.2)
 
-pub slice_bounds-row_line-count : goal.slice_bounds-row_line-count
-slice_bounds-row_line-count c =
-    omega (arith, c.find-end.ensures.0, found-least 10 c.loop-j.p c.args.text.now c.loop-j.invariant.1)
-
-pub slice_bounds-row_line-start : goal.slice_bounds-row_line-start
-slice_bounds-row_line-start c =
-    omega (arith, c.find-end.ensures.0, found-least 10 c.loop-j.p c.args.text.now c.loop-j.invariant.1)
-
-pub row_line-requires : goal.row_line-requires
-row_line-requires c =
-    let args = c.args in
-    let at-loop = c.loop-j in
-    omega (arith, room args.rows at-loop.j (args.c + 1) c.loop-j-test.true)
-
-pub overflow_add-k-then-row_line : goal.overflow_add-k-then-row_line
-overflow_add-k-then-row_line c =
-    let args = c.args in
-    let at-loop = c.loop-j in
-    omega (arith, room args.rows at-loop.j (args.c + 1) c.loop-j-test.true)
+pub returns-in_err-ok_or-clause-body : goal.returns-in_err-ok_or-clause-body
+returns-in_err-ok_or-clause-body c =
+    let bad : none ≡ row_stored c.args.c c.in_ok-row.row.now c.loop-j.m c.loop-j.at = rw c.in_err-ok_or.ensures.ok_part at c.row_line.ensures in
+    let e : c.from_residual-in_err-ok_or.result ≡ Err (record { line = c.args.from.line + c.loop-j.j }) = search rules in
+    let n : c.args.from.line + c.loop-j.j ≡ c.loop-j.left.line = omega arith in
+    rw (e, n) (body-bad _ _ _ _ _ _ _ c.loop-j-test.true _ _ c.in_ok-row.ensures.0 bad ∙ c.loop-j.invariant.2)
 
 pub loop-j-preserved : goal.loop-j-preserved
-unfolding when
 loop-j-preserved c =
-    let inside : c.find-end.result < length c.args.text.now =
-    omega arith in
-    let args = c.args in
-    let at-loop = c.loop-j in
-    let h = c.loop-j-test.true in
-    let g = inside in (
+    let row : some c.row_line.new.m ≡ row_stored c.args.c c.in_ok-row.row.now c.loop-j.m c.loop-j.at = rw c.in_ok-ok_or.ensures.ok_part at c.row_line.ensures in
+    let n : c.in_ok-row.rest.line ≡ c.loop-j.left.line + 1 = c.in_ok-row.ensures.1 in (
       omega arith,
-      omega (arith, g),
-      omega (arith, room args.rows at-loop.j (args.c + 1) h),
-      sym (body-next _ _ _ _ _ _ _ _ _ c.find-end.ensures.0 h c.requires.2 g _ (taken _ _ _ c.if-row_line.true c.row_line.ensures)) ∙ at-loop.invariant.3,
+      omega (arith, room c.args.rows c.loop-j.j (c.args.c + 1) c.loop-j-test.true),
+      rw n (body-next _ _ _ _ _ _ _ c.loop-j-test.true _ _ c.in_ok-row.ensures.0 _ c.requires.1 row ∙ c.loop-j.invariant.2),
     )
 
-pub returns-else-row_line : goal.returns-else-row_line
-unfolding placed when
-returns-else-row_line c =
-    let inside : c.find-end.result < length c.args.text.now =
-    omega arith in
-    let at-loop = c.loop-j in (
-      sym (body-bad _ _ _ _ _ _ _ _ _ c.find-end.ensures.0 c.loop-j-test.true c.requires.2 inside (left _ _ _ c.if-row_line.false c.row_line.ensures)) ∙ at-loop.invariant.3,
-      omega arith,
-      omega arith,
-      omega arith,
-    )
-
-pub returns : goal.returns
-unfolding placed
-returns c =
-    let at-loop = c.loop-j in
-    let args = c.args in
-    let e : at-loop.j ≡ args.rows = omega arith in
-    (sym (body_end args.rows args.c (args.n + at-loop.j) at-loop.j (drop at-loop.p args.text.now) at-loop.m at-loop.k e) ∙ at-loop.invariant.3, omega arith, omega arith, omega arith)
+pub returns-clause-body : goal.returns-clause-body
+returns-clause-body c = body_end _ _ _ c.loop-j.j _ _ c.loop-j.at (omega arith) ∙ c.loop-j.invariant.2

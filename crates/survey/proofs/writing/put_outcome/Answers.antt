@@ -5,30 +5,32 @@ use lib.ListN.{take}
 use lib.Ieee.{Float}
 use Rattle.method.specs.Work.{work}
 use Rattle.method.specs.Outcome.{Outcome, outcome_of}
-use Rattle.svd.specs.Values.{report_of}
-use Rattle.svd.specs.declared.report.Report.{Report}
-use Rattle.text.proofs.WritingLaws.{then}
+use Rattle.std.specs.Prelude.{Ok, Err}
+use mathlib.Core.Path.{refl}
+use Rattle.checks.specs.Refused.{refused_some}
+use Rattle.svd.specs.Values.{Answer, report_of}
+use Rattle.text.proofs.Pages.{writes-then}
 use Rattle.survey.specs.declared.reading.Entry.{Entry}
 use Rattle.survey.proofs.WritingLaws.{outcome-refused, rows_taken, outcome-accepted}
 use Rattle.survey.proofs.writing.put_outcome.Goals as goal
 
 -- what the call said, as the method's outcome
-outcome : Entry → Report → List Float → Outcome
+outcome : Entry → Answer → List Float → Outcome
 outcome e r m = outcome_of (report_of r) (work (take (e.rows * e.cols) m) [] [])
 
-pub returns-then-report-eq0 : goal.returns-then-report-eq0
+pub returns-in-Ok : goal.returns-in-Ok
 unfolding outcome
-returns-then-report-eq0 c =
+returns-in-Ok c =
     let e = c.args.e in
     let m = c.args.m.now in
-    let report = c.put_report-a.ensures in
+    let report = c.put_report.ensures in
     let rows = c.put_rows.ensures in
-    let h = outcome-accepted e.id e.rows e.cols (outcome e c.args.report m) c.if-report-eq0.true in
-    rw (h, rows_taken e.rows e.cols m c.requires) (then report rows)
+    let h = outcome-accepted e.id e.rows e.cols (outcome e (Ok c.in-Ok.report) m) refl in
+    rw (c.in-Ok.is, h, rows_taken e.rows e.cols m c.requires) (writes-then report rows)
 
-pub returns-else-report-eq0 : goal.returns-else-report-eq0
+pub returns-in-Err : goal.returns-in-Err
 unfolding outcome
-returns-else-report-eq0 c =
+returns-in-Err c =
     let e = c.args.e in
-    let h = outcome-refused e.id e.rows e.cols (outcome e c.args.report c.args.m.now) c.if-report-eq0.false in
-    rw h c.put_refused.ensures
+    let h = outcome-refused e.id e.rows e.cols (outcome e (Err c.in-Err.refusal) c.args.m.now) (refused_some c.in-Err.refusal) in
+    rw (c.in-Err.is, h) c.put_refused.ensures

@@ -1,20 +1,14 @@
 -- `add_row` meets its contract: after l turns w is `row_added` of l entries. Assumes nothing.
 use Prim.Native.Nat.{zero-le}
-use mathlib.Core.Path.{refl}
-use native.Mathlib.Omega.{arith}
-use native.Mathlib.Nat.{le_antisymm}
-use lib.ListN.{length-set}
+use native.Mathlib.Nat.{zero-add}
 use Rattle.method.proofs.Repeated.{repeated-none, repeated-more}
 use Rattle.method.specs.Reflection.{row_added}
 use Rattle.svd.proofs.householder.add_row.Goals as goal
 
 pub loop-l-init : goal.loop-l-init
 unfolding row_added
-loop-l-init c = (omega arith, refl, repeated-none 0 _ _)
+loop-l-init c = repeated-none 0 _ _
 
 pub loop-l-preserved : goal.loop-l-preserved
 unfolding row_added
-loop-l-preserved c = (omega arith, simp length-set (omega arith), repeated-more 0 _ _ _ _ zero-le c.loop-l.invariant.2)
-
-pub returns : goal.returns
-returns c = rw (le_antisymm c.loop-l.invariant.0 c.loop-l-test.false) at c.loop-l.invariant.2
+loop-l-preserved c = rw zero-add at (repeated-more 0 _ _ _ _ zero-le c.loop-l.invariant)

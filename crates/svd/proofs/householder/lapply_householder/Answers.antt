@@ -1,13 +1,13 @@
 -- `lapply_householder` meets its contract: the three steps of `reflected_left`, over a blank vector. Assumes nothing.
-use borrow.Author.Rules.{rules}
+use Prim.Native.Nat.{zero-le, ◌≤◌}
+use native.Mathlib.Omega.{arith}
+use lib.ListN.{length}
 use Rattle.method.specs.Reflection.{reflected_left}
-use Rattle.method.proofs.Floats.{plus_zero-64}
+use Rattle.svd.specs.Reflections.{times_from-part}
 use Rattle.svd.proofs.householder.lapply_householder.Goals as goal
-
-pub sum_columns-requires : goal.sum_columns-requires
-sum_columns-requires c = rw plus_zero-64 (search rules)
 
 pub returns : goal.returns
 unfolding reflected_left
 returns c =
-    rw (c.rows_less.ensures, c.scale_from.ensures, c.sum_columns.ensures)
+    let few : c.args.window.cols ≤ length c.sum_columns.new.w = omega (arith, c.sum_columns.auto.w) in
+    rw (c.rows_less.ensures, times_from-part _ _ 0 c.args.window.cols c.args.window.cols _ _ zero-le few (omega arith) c.scale.ensures, c.sum_columns.ensures)

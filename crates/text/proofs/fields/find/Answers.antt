@@ -1,34 +1,57 @@
--- `text::fields::find` meets its contract: a byte is the stop or the search goes on behind it. Assumes nothing.
-use Rattle.std.proofs.Common.{◌≡◌, ◌≤◌, ◌+◌, ℕ, Bool, true, false, refl, sym, ◌∙◌, arith, length, drop, length-drop}
-use Rattle.std.proofs.Math.Dec.{leb}
-use borrow.Author.Tests.{leb-true, leb-false}
-use Rattle.text.specs.Text.{Bytes, found, index_of}
-use Rattle.text.proofs.Cuts.{index_most, found_inside, found-outside, found-next, found-here}
+-- `text::fields::find` meets its contract: the library's search of what `at` leaves is the search. Assumes nothing.
+use Rattle.std.proofs.Common.{◌≡◌, ◌≤◌, ◌<◌, ◌+◌, ◌⊎◌, ℕ, Bool, true, false, cond, refl, sym, ap, ◌∙◌, eqb, ltb, List, length, drop, arith, rules, tests, Option, Some, None, length-drop}
+use Rattle.std.specs.List.{position_or_len, slice_range}
+use Rattle.std.proofs.lemmas.Iterator.{YieldsList-from_slice}
+use Rattle.std.proofs.lemmas.Iterator.Search.{position_from_yields_List}
+use Rattle.std.proofs.lemmas.Option.{cond_some}
+use Rattle.std.proofs.lemmas.Slice.{between_to_end}
+use borrow.Author.Tests.{ltb-false}
+use Rattle.text.specs.Text.{found}
+use Rattle.text.proofs.Cuts.{index_most, index_of-position, found_inside, found-outside}
 use Rattle.text.proofs.fields.find.Goals as goal
 
--- once every byte is passed, the search has found the end
-at-end : (stop at i : ℕ) (s : Bytes) → length s ≤ i → (at ≤ length s → i ≤ length s)
-    → (at ≤ length s → found stop at s ≡ i + index_of stop (drop i s)) → length s ≡ found stop at s
-at-end stop at i s h g f = go (leb at (length s)) refl
-  where
-    go : (x : Bool) → leb at (length s) ≡ x → length s ≡ found stop at s
-    go true x =
-        let b = leb-true at (length s) x in
-        omega (arith, f b, g b, index_most stop (drop i s), length-drop i s)
-    go false x = sym (found-outside stop at s (leb-false at (length s) x))
+-- the place at which the library's search ends, in what `at` leaves
+abbrev first : ℕ → List ℕ → ℕ
+first stop rest = position_or_len (λ b. eqb b stop) rest
 
-pub loop-i-init : goal.loop-i-init
-loop-i-init c = λ h. found_inside c.args.stop c.args.at c.args.s.now h
+module _ (stop at : ℕ) (s rest : List ℕ) (h : at ≤ length s) (q : rest ≡ slice_range s at (length s)) where
+  left : rest ≡ drop at s
+  left = q ∙ between_to_end s at (length s) (omega arith)
 
-pub returns-then-s-i : goal.returns-then-s-i
-returns-then-s-i c =
-    let e = found-here c.args.stop c.loop-i.i c.args.s.now c.loop-i-test.true c.if-s-i.true in
-    (sym (c.loop-i.invariant (omega arith) ∙ e), omega arith)
+  first-found : at + first stop rest ≡ found stop at s
+  first-found = omega (arith, ap (first stop) left, index_of-position stop (drop at s), found_inside stop at s h)
 
-pub loop-i-preserved : goal.loop-i-preserved
-loop-i-preserved c =
-    λ h. c.loop-i.invariant h ∙ found-next c.args.stop c.loop-i.i c.args.s.now c.loop-i-test.true c.if-s-i.false
+  module _ (r : Option ℕ) (e : r ≡ cond (ltb (first stop rest) (length rest)) (Some (first stop rest)) None) where
+    some-found : (i : ℕ) → r ≡ Some i → at + i ≡ found stop at s
+    some-found i p = omega (arith, first-found, (cond_some (ltb (first stop rest) (length rest)) (first stop rest) i (sym e ∙ p)).1)
 
-pub returns : goal.returns
-returns c =
-    (at-end c.args.stop c.args.at c.loop-i.i c.args.s.now c.loop-i-test.false c.loop-i.auto.i-end c.loop-i.invariant, omega arith)
+    none-found : r ≡ None → length s ≡ found stop at s
+    none-found p = go (ltb (first stop rest) (length rest)) refl (sym e ∙ p)
+      where
+        go : (x : Bool) → ltb (first stop rest) (length rest) ≡ x → cond x (Some (first stop rest)) None ≡ None
+            → length s ≡ found stop at s
+        go true x f = absurd (let z : ◌≡◌ {A = ℕ} 0 1 = cc in omega arith)
+        go false x f =
+            omega (arith, first-found, ap length left, length-drop at s, index_of-position stop rest, index_most stop rest, ltb-false (first stop rest) (length rest) x)
+
+past : (n at : ℕ) → (n < at) ⊎ (n < n) → n < at
+past n at h = grind arith
+
+pub returns-in_err-rest-clause-found : goal.returns-in_err-rest-clause-found
+returns-in_err-rest-clause-found c =
+    let h = past _ _ c.in_err-rest.ensures.lookup.0 in
+    rw c.from_residual.ensures (sym (found-outside _ _ _ h))
+
+pub returns-in_err-i-clause-found : goal.returns-in_err-i-clause-found
+returns-in_err-i-clause-found c =
+    let l = c.in_ok-rest.ensures.lookup.0 in
+    let rest = c.in_ok-rest.rest.now in
+    let e = position_from_yields_List (λ b. eqb b c.args.stop) _ _ c.position.result c.position.ensures.ran (YieldsList-from_slice rest cc) (λ x b q k. search (rules, tests)) in
+    rw c.from_residual-in_err-i.ensures (none-found c.args.stop _ _ rest l.0 l.2 _ e c.in_err-i.was)
+
+pub returns-clause-found : goal.returns-clause-found
+returns-clause-found c =
+    let l = c.in_ok-rest.ensures.lookup.0 in
+    let rest = c.in_ok-rest.rest.now in
+    let e = position_from_yields_List (λ b. eqb b c.args.stop) _ _ c.position.result c.position.ensures.ran (YieldsList-from_slice rest cc) (λ x b q k. search (rules, tests)) in
+    some-found c.args.stop _ _ rest l.0 l.2 _ e _ c.in_ok-i.was

@@ -1,20 +1,15 @@
--- `text::numerals::places` meets its contract: the digits of what is left and those that were counted are all; the measure is what is left. Assumes nothing.
-use mathlib.Core.Path.{refl}
-use Prim.Native.Nat.{◌<◌}
-use native.Mathlib.Omega.{arith}
-use Rattle.text.proofs.WritingLaws.{places-most, places-next, places-end}
+-- `text::numerals::places` meets its contract: the library's logarithm and one more, and one place for 0. Assumes nothing.
+use Rattle.std.proofs.Common.{◌≡◌, ◌+◌, ◌*◌, ◌^◌, ◌<◌, ◌≤◌, ℕ, Option, Some, None, IfNone, IfSome, unwrap_or, arith}
+use Rattle.text.specs.Text.{places_by}
+use Rattle.text.proofs.WritingLaws.{places-end, places-power}
 use Rattle.text.proofs.numerals.places.Goals as goal
 
-pub loop-rest-init : goal.loop-rest-init
-loop-rest-init c = (refl, omega arith)
-
-pub overflow_add-k : goal.overflow_add-k
-overflow_add-k c = omega (arith, places-most 19 c.args.n (omega arith))
-
-pub loop-rest-preserved : goal.loop-rest-preserved
-loop-rest-preserved c = omega (arith, places-next c.loop-rest.rest c.loop-rest-test.true)
+counted : (n : ℕ) (r : Option ℕ) → IfNone r (n ≡ 0) → IfSome r (λ k. 10 ^ k ≤ n) → IfSome r (λ k. n < 10 * 10 ^ k)
+    → unwrap_or r 0 + 1 ≡ places_by n n
+counted n None e g h = omega (arith, places-end n (omega arith))
+counted n (Some k) e g h = omega (arith, places-power k n g h)
 
 pub returns : goal.returns
 returns c =
-    let h : c.loop-rest.rest < 10 = c.loop-rest-test.false in
-    omega (arith, places-end c.loop-rest.rest h)
+    let h = c.checked_ilog10.ensures in
+    rw c.unwrap_or.ensures (counted _ _ h.none h.power_le h.next_power_gt)

@@ -1,24 +1,15 @@
--- `text::writing::store` meets its contract: the bytes still to write give the whole; the measure is how many are left. Assumes nothing.
-use mathlib.Core.Path.{◌≡◌, refl, sym, ◌∙◌}
-use Prim.Native.Nat.{◌+◌}
-use native.Mathlib.Omega.{arith}
-use lib.ListN.{length, length-set}
-use Rattle.text.proofs.WritingLaws.{sets_next, sets_end}
+-- `text::writing::store` meets its contract: the part that was copied to is the bytes. Assumes nothing.
+use Rattle.std.proofs.Common.{◌≡◌, ◌≤◌, ◌+◌, ◌-◌, ℕ, List, length, arith, append_assoc}
+use Rattle.std.proofs.lemmas.List.Edits.{sets, sets-eq}
+use Rattle.std.proofs.Math.Seq.{drop-drop}
+use borrow.Rule.Slice.PartMut.{put_mid}
 use Rattle.text.proofs.writing.store.Goals as goal
 
-pub loop-i-init : goal.loop-i-init
-loop-i-init c =
-    let z : c.args.at + 0 ≡ c.args.at = omega arith in
-    (omega arith, refl, rw z)
-
-pub loop-i-preserved : goal.loop-i-preserved
-loop-i-preserved c =
-    let at-loop = c.loop-i in
-    (omega arith, simp length-set at-loop.invariant.1, sym (sets_next _ _ _ _ c.loop-i-test.true) ∙ at-loop.invariant.2)
+put_mid-sets : (at : ℕ) (s out now : List ℕ) → at + length s ≤ length out → now ≡ s
+    → put_mid at (at + length s - at) out now ≡ sets out at s
+put_mid-sets at s out now h e =
+    let k : at + length s - at ≡ length s = omega arith in
+    rw (sets-eq s out at h, e, k, drop-drop, append_assoc)
 
 pub returns : goal.returns
-returns c =
-    let at-loop = c.loop-i in
-    let args = c.args in
-    let e : at-loop.i ≡ length args.s.now = omega arith in
-    sym (sets_end args.s.now at-loop.out (args.at + at-loop.i) at-loop.i e) ∙ at-loop.invariant.2
+returns c = put_mid-sets _ _ _ _ c.requires c.copy_from_slice.ensures.after

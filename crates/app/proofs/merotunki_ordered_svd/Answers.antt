@@ -1,9 +1,0 @@
--- `merotunki_ordered_svd` meets its contract: it tells the report of the call beneath, which leaves the lists. Assumes
--- nothing.
-use Rattle.app.specs.Answers.{told-in_order}
-use Rattle.app.proofs.merotunki_ordered_svd.Goals as goal
-
-pub returns : goal.returns
-returns c =
-    told-in_order _ _ _ _ _ c.tell.ensures
-    (rw c.choose-settings.ensures at c.ordered_svd_decomposition-report.ensures)

@@ -1,9 +1,0 @@
--- i is at most the length; the measure is how many bytes are left.
-use Rattle.std.proofs.Common.{◌-◌, ◌≤◌, length}
-use Rattle.paper.proofs.reading.whole.Given as goal
-
-abbrev pub invariant-loop-i : goal.invariant-loop-i
-invariant-loop-i l = l.i ≤ length l.l
-
-abbrev pub decreases-loop-i : goal.decreases-loop-i
-decreases-loop-i l = length l.l - l.i

@@ -1,0 +1,54 @@
+-- `split::split` meets its contract: what was read settles what is printed of the input. Assumes nothing.
+use Rattle.std.proofs.Common.{◌≡◌, ◌≤◌, ◌<◌, ◌++◌, ℕ, Bool, true, false, [], length, take, refl, subst, sym, leb, leb-true, leb-false, arith, Option, Some, None, OnOk, Ok, Err, Result, ap, take_all, take_at, length-take-le, append-nil}
+use Rattle.std.specs.Prelude.{MatchResult, is_ok}
+use Rattle.std.specs.Io.KnownBytes.{Appends, Consumes, IsAtEnd}
+use Rattle.text.specs.Text.{Bytes}
+use Rattle.survey.specs.Sizes.{enough, room}
+use Rattle.survey.specs.Answers.{InputPromised}
+use Rattle.survey.proofs.Answers.{begins}
+use Rattle.split.specs.Printing.{Prints}
+use Rattle.split.proofs.split.Goals as goal
+
+-- what was read settles what is printed: it is all that there was, or enough
+settles : (enough : ℕ) (t rest read : Bytes) (n : ℕ) → length read ≡ enough → n ≤ length read → t ≡ take n read ++ rest
+    → (n < length read → rest ≡ []) → take enough t ≡ take n read
+settles enough t rest read n e h q last = go (leb enough n) refl
+  where
+    long : length (take n read) ≡ n
+    long = length-take-le n read h
+
+    go : (x : Bool) → leb enough n ≡ x → take enough t ≡ take n read
+    go true x = rw q (take_at (take n read) rest enough (omega (arith, long, leb-true enough n x)))
+    go false x =
+        let z : rest ≡ [] = last (omega (arith, leb-false enough n x)) in
+        rw (q, z, append-nil) (take_all enough (take n read) (omega (arith, long, leb-false enough n x)))
+
+printed : (old mid before after : Option Bytes) (read out₀ out : Bytes) (n k : ℕ) → length read ≡ enough → length out₀ ≡ room
+    → n ≤ length read → Consumes old mid (take n read) → (n < length read → IsAtEnd mid)
+    → InputPromised (take n read) out₀ out k → Appends before after (take k out) → Prints old before after
+printed None mid before after read out₀ out n k e r h c l p a = tt
+printed (Some t) None before after read out₀ out n k e r h c l p a = absurd c
+printed (Some t) (Some rest) before after read out₀ out n k e r h c l p a =
+    let w = p.1 t (settles enough t rest read n e h c l) in
+    subst (Appends before after) (begins w.0 (omega (arith, w.1))) a
+
+was : {T E : Type 0} (D : Type 0) (P : E → Type 0) (r : Result T E) (x : T) → MatchResult r (λ y. ◌≡◌ {A = Result T D} (Ok x) (Ok y)) P → true ≡ is_ok r → r ≡ Ok x
+was D P (Ok y) x e v = let z : x ≡ y = cc in ap Ok (sym z)
+was D P (Err y) x e v = absurd (let z : true ≡ false = v in cc)
+
+where-ok : {T E D P Q : Type 0} (R : E → Type 0) (r : Result T E) (s : Result T D) → MatchResult r (λ y. s ≡ Ok y) R → is_ok s ≡ is_ok r → OnOk r P → (P → Q) → OnOk s Q
+where-ok R (Ok y) s e v p f = rw e (f p)
+where-ok R (Err y) (Ok z) e v p f = absurd (let w : true ≡ false = v in cc)
+where-ok R (Err y) (Err z) e v p f = tt
+
+pub returns-clause-ok : goal.returns-clause-ok
+returns-clause-ok g c =
+    let text = c.read_full.new.buf in
+    let n = c.in_ok-n.n in
+    let r = was _ _ c.read_full.result n c.in_ok-n.ensures.cases c.in_ok-n.ensures.variant in
+    let long : length text ≡ enough = omega (arith, c.read_full.auto.buf) in
+    let bound : (n ≤ length text) × (n ≡ length (take n text)) = rw r at c.read_full.ensures.bound in
+    let bytes : Consumes (g.R.Read.remaining c.args.input.now) (g.R.Read.remaining c.read_full.new.input) (take n text) = rw r at c.read_full.ensures.bytes in
+    let end : n < length text → IsAtEnd (g.R.Read.remaining c.read_full.new.input) = rw r at c.read_full.ensures.end in
+    where-ok _ _ _ c.map_err-2.ensures.cases c.map_err-2.ensures.variant c.write_all.ensures.bytes
+    (printed _ _ _ _ text _ _ n _ long refl bound.0 bytes end c.split_input-k.ensures)
