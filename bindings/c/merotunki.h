@@ -35,8 +35,8 @@
  *
  * MEMORY AND THREADS. No heap, no global state, no locks, no files; of other libraries memcpy and memset alone (on
  * iOS bzero) are called. Several threads may call at once, each on buffers of its own. The two ordered calls use less
- * than 3,584 bytes of stack, every other call less than 2,304: measured, at most 3,440 and 2,064 on x86-64, 3,280 and
- * 1,936 on 64-bit Arm. On 64-bit Arm x18 is left alone: a caller built with a shadow call stack keeps it.
+ * than 3,584 bytes of stack, every other call less than 2,304: measured, at most 2,872 and 1,816 on x86-64, 2,752 and
+ * 1,696 on 64-bit Arm. On 64-bit Arm x18 is left alone: a caller built with a shadow call stack keeps it.
  *
  * HOW THE CALLS ARE MADE. A slice is a pointer and a length, one after the other. An answer or choice is written where
  * the first argument points, and that pointer is handed back. On x86-64 (System V, so not Windows) this is also how C
