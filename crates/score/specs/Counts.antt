@@ -1,5 +1,5 @@
 -- What the counts are of no rows, and after one row more. Assumes nothing.
-use Rattle.std.specs.Prelude.{Bool, true, false, ℕ, ◌+◌, ltb}
+use Rattle.std.specs.Prelude.{Bool, true, false, List, [], ◌∷◌, ◌++◌, ℕ, ◌+◌, ltb, decimal}
 use Rattle.score.specs.declared.Score.{Score}
 
 abbrev pub pick : Bool → ℕ → ℕ → ℕ
@@ -20,3 +20,17 @@ counted s false false =
     record { right = more s.right; differ = more s.differ; wrong = s.wrong; found = s.found }
 counted s true true = record { right = s.right; differ = s.differ; wrong = more s.wrong; found = s.found }
 counted s true false = record { right = s.right; differ = s.differ; wrong = more s.wrong; found = more s.found }
+
+-- ` is wrong on purpose and was not found`, and ` differs`, each with its line's end
+abbrev pub not_found : List ℕ
+not_found = 32 ∷ 105 ∷ 115 ∷ 32 ∷ 119 ∷ 114 ∷ 111 ∷ 110 ∷ 103 ∷ 32 ∷ 111 ∷ 110 ∷ 32 ∷ 112 ∷ 117 ∷ 114 ∷ 112 ∷ 111 ∷ 115 ∷ 101 ∷ 32 ∷ 97 ∷ 110 ∷ 100 ∷ 32 ∷ 119 ∷ 97 ∷ 115 ∷ 32 ∷ 110 ∷ 111 ∷ 116 ∷ 32 ∷ 102 ∷ 111 ∷ 117 ∷ 110 ∷ 100 ∷ 10 ∷ []
+
+abbrev pub differs : List ℕ
+differs = 32 ∷ 100 ∷ 105 ∷ 102 ∷ 102 ∷ 101 ∷ 114 ∷ 115 ∷ 10 ∷ []
+
+-- what is printed of a row by the counts after it: its number, among the wrong or the right ones, where it is not as told
+abbrev pub judged : Score → Bool → Bool → List ℕ
+judged s true true = decimal s.wrong ++ not_found
+judged s false false = decimal s.right ++ differs
+judged s true false = []
+judged s false true = []

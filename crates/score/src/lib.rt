@@ -2,8 +2,9 @@
 // or it is wrong on purpose and has to be found: so a comparison that sees nothing shows.
 #![tactic(auto)]
 
-ghost use Rattle.std.specs.Prelude.{◌≡◌};
-ghost use Rattle.score.specs.Counts.{none, counted};
+ghost use Rattle.std.specs.Io.KnownBytes.{Appends};
+ghost use Rattle.std.specs.Prelude.{◌≡◌, OnOk};
+ghost use Rattle.score.specs.Counts.{none, counted, judged};
 
 use std::io::Write;
 use std::{fmt, io};
@@ -50,7 +51,8 @@ impl Score {
     // Counts one row more, and prints its number, among the right or the wrong ones, where it is not as
     // told.
     pub fn judge<W: Write>(&mut self, out: &mut W, wrong: bool, agrees: bool) -> io::Result<()>
-        ensures { self.new ≡ counted self.old wrong agrees }
+        ensures counts { self.new ≡ counted self.old wrong agrees }
+        ensures prints { OnOk result (Appends (W.contents out.old) (W.contents out.new) (judged self.new wrong agrees)) }
     {
         *self = self.counted(wrong, agrees);
         match (wrong, agrees) {
