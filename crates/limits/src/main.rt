@@ -8,9 +8,12 @@ use crate::Call::{Full, Plain};
 use checks::place::Place;
 use checks::refusal::Refusal;
 use checks::settings::Settings;
-use std::{fmt, io};
+use console::{print_decimal, print_hex};
+use std::io;
+use std::io::Write;
 use svd::interface::{full_svd_decomposition, svd_decomposition};
 use svd::report::{Report, Word};
+use svd::tally::Tally;
 
 // Which call is made, and how many entries the lists have: the matrix, or matrix, U and V.
 #[derive(Clone, Copy)]
@@ -46,41 +49,73 @@ fn table(entries: [f64; 2]) -> [f64; LONGEST] {
 #[derive(Clone, Copy)]
 struct Entries<'a>(&'a [f64]);
 
-impl fmt::Display for Entries<'_> {
-    fn fmt<W: fmt::Write>(&self, f: &mut fmt::Formatter<W>) -> fmt::Result {
+impl Entries<'_> {
+    // A line of the list's name and these entries.
+    // Kept: no Display: `print_decimal` and `print_hex` of console, with their clauses, print to an io::Write.
+    fn print<W: Write>(self, out: &mut W, name: &[u8]) -> io::Result<()> {
+        out.write_all(name)?;
         for (place, x) in self.0.iter().enumerate() {
             let bits = float::to_bits(*x);
             if bits != 0 {
-                write!(f, " {place}:{bits:016x}")?;
+                out.write_all(b" ")?;
+                print_decimal(out, place as u64)?;
+                out.write_all(b":")?;
+                print_hex(out, bits, 16)?;
             }
         }
-        Ok(())
+        out.write_all(b"\n")
     }
+}
+
+// Numbers, each behind a space.
+fn print_numbers<W: Write>(out: &mut W, numbers: &[usize]) -> io::Result<()> {
+    for number in numbers {
+        out.write_all(b" ")?;
+        print_decimal(out, *number as u64)?;
+    }
+    Ok(())
+}
+
+// The counts of a walk.
+fn print_tally<W: Write>(out: &mut W, tally: Tally) -> io::Result<()> {
+    let Tally {
+        range,
+        passes,
+        sweeps,
+        drops,
+        rotations,
+    } = tally;
+    print_numbers(out, &[passes, sweeps, drops, range, rotations])
 }
 
 // A line of the name and the report: number, place, word and counts.
 // Kept: survey has these words too, but as bytes that its clauses tie to `word_text` of its specs.
-fn print_report(rt: &impl Print, name: &str, answer: Result<Report, Refusal>) -> io::Result<()> {
+fn print_report<W: Write>(
+    out: &mut W,
+    name: &str,
+    answer: Result<Report, Refusal>,
+) -> io::Result<()> {
+    out.write_all(name.as_bytes())?;
+    out.write_all(b":")?;
     match answer {
         Ok(Report { word, tally }) => {
+            print_numbers(out, &[0; 4])?;
             let word = match word {
-                Word::Settled => "settled",
-                Word::Stopped => "stopped",
-                Word::Quiet => "quiet",
+                Word::Settled => " settled",
+                Word::Stopped => " stopped",
+                Word::Quiet => " quiet",
             };
-            println!(rt;
-                "{name}: 0 0 0 0 {word} {} {} {} {} {}",
-                tally.passes, tally.sweeps, tally.drops, tally.range, tally.rotations
-            )
+            out.write_all(word.as_bytes())?;
+            print_tally(out, tally)?;
         }
         Err(refusal) => {
             let Place { row, column, bad } = refusal.place();
-            println!(rt;
-                "{name}: {} {row} {column} {bad} none 0 0 0 0 0",
-                refusal.number()
-            )
+            print_numbers(out, &[refusal.number(), row, column, bad])?;
+            out.write_all(b" none")?;
+            print_tally(out, Tally::default())?;
         }
     }
+    out.write_all(b"\n")
 }
 
 impl Case {
@@ -103,7 +138,7 @@ impl Case {
 
     // Makes the call, and prints what it answers and leaves. U and V start with ones for the first and
     // the fourth entry.
-    fn print(self, rt: &impl Print) -> io::Result<()> {
+    fn print<W: Write>(self, out: &mut W) -> io::Result<()> {
         let Case {
             name,
             rows,
@@ -119,8 +154,8 @@ impl Case {
             Plain(n) => {
                 if let Some(b) = b.get_mut(..n) {
                     let report = svd_decomposition(b, rows, cols, settings);
-                    print_report(rt, name, report)?;
-                    println!(rt; "  b{}", Entries(b))?;
+                    print_report(out, name, report)?;
+                    Entries(b).print(out, b"  b")?;
                 }
             }
             Full(long) => {
@@ -130,10 +165,10 @@ impl Case {
                     && let Some(v) = v.get_mut(..nv)
                 {
                     let report = full_svd_decomposition(b, u, v, rows, cols, settings);
-                    print_report(rt, name, report)?;
-                    println!(rt; "  b{}", Entries(b))?;
-                    println!(rt; "  u{}", Entries(u))?;
-                    println!(rt; "  v{}", Entries(v))?;
+                    print_report(out, name, report)?;
+                    Entries(b).print(out, b"  b")?;
+                    Entries(u).print(out, b"  u")?;
+                    Entries(v).print(out, b"  v")?;
                 }
             }
         }
@@ -268,8 +303,9 @@ fn main(rt: HostRuntime) -> io::Result<()> {
         .chain(counts())
         .chain(lengths())
         .chain(order());
+    let mut out = rt.stdout();
     for case in cases {
-        case.print(&rt)?;
+        case.print(&mut out)?;
     }
     Ok(())
 }

@@ -6,25 +6,16 @@ use Rattle.method.specs.Profiles as Profiles
 use Rattle.method.specs.Profiles.{no_profile, picked}
 use Rattle.method.proofs.Profiles.Table.{picked-there, picked_none}
 use Rattle.checks.specs.declared.refusal.Refusal.{Refusal}
-use Rattle.checks.specs.declared.refusal.Refusal.TheVariants.{NoSize, TooLarge, TableLength, ULength, VLength, OverLimit, UnfitBounds, BadReadings, NoProfile, ListLength}
+use Rattle.checks.specs.declared.refusal.Refusal.TheVariants.{NoProfile}
 use Rattle.checks.specs.declared.settings.Settings.{Settings}
 use Rattle.checks.specs.Values.{refusal_in}
 use Rattle.checks.specs.Refused.{refused_some}
-use Rattle.checks.specs.Answers.{from_settings}
+use Rattle.checks.specs.Answers.{from_settings, from_refusal_lem}
 use Rattle.profiles.specs.Values.{picked_in}
 
 -- by 10 there is no such profile
 by_ten : (e : Refusal) → (refusal_in e).number ≡ 10 → e ≡ NoProfile
-by_ten NoSize z = absurd (omega (arith, z))
-by_ten TooLarge z = absurd (omega (arith, z))
-by_ten TableLength z = absurd (omega (arith, z))
-by_ten ULength z = absurd (omega (arith, z))
-by_ten VLength z = absurd (omega (arith, z))
-by_ten OverLimit z = absurd (omega (arith, z))
-by_ten UnfitBounds z = absurd (omega (arith, z))
-by_ten (BadReadings p) z = absurd (omega (arith, z))
-by_ten NoProfile z = refl
-by_ten ListLength z = absurd (omega (arith, z))
+by_ten e z = sym (from_refusal_lem e) ∙ rw z refl
 
 -- a number that has a profile picks its settings
 pub picks : (k : ℕ) (p : Result Settings Refusal) → no_profile k ≡ false → picked_in p ≡ picked binary64 k → p ≡ Ok (from_settings (picked binary64 k).settings)

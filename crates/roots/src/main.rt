@@ -6,7 +6,7 @@
 mod row;
 
 use crate::row::{LENGTH, agrees, is_wrong};
-use console::read_full;
+use console::{print_decimal, read_full};
 use score::Score;
 use std::io;
 use std::io::Write;
@@ -36,6 +36,9 @@ fn main(rt: HostRuntime) -> io::Result<()> {
     // Kept: read_full answers a count, as a read of std does, and it cuts the list: there is no Vec.
     let mut list = [0; 200000];
     let n = read_full(&mut rt.stdin(), &mut list)?;
-    let score = compare(&mut rt.stdout(), &list[..n])?;
-    println!(rt; "{} rows compared, {score}", score.right)
+    let mut out = rt.stdout();
+    let score = compare(&mut out, &list[..n])?;
+    print_decimal(&mut out, score.right)?;
+    out.write_all(b" rows compared, ")?;
+    score.print(&mut out)
 }

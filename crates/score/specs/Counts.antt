@@ -34,3 +34,17 @@ judged s true true = decimal s.wrong ++ not_found
 judged s false false = decimal s.right ++ differs
 judged s true false = []
 judged s false true = []
+
+-- the words behind the counts of a line, the last with its line's end
+abbrev pub differ_words : List ℕ
+differ_words = 32 ∷ 100 ∷ 105 ∷ 102 ∷ 102 ∷ 101 ∷ 114 ∷ 59 ∷ 32 ∷ []
+
+abbrev pub wrong_words : List ℕ
+wrong_words = 32 ∷ 119 ∷ 114 ∷ 111 ∷ 110 ∷ 103 ∷ 32 ∷ 111 ∷ 110 ∷ 32 ∷ 112 ∷ 117 ∷ 114 ∷ 112 ∷ 111 ∷ 115 ∷ 101 ∷ 44 ∷ 32 ∷ []
+
+abbrev pub found_words : List ℕ
+found_words = 32 ∷ 102 ∷ 111 ∷ 117 ∷ 110 ∷ 100 ∷ 10 ∷ []
+
+-- what is printed of all rows: how many right ones differ, how many are wrong on purpose, and how many of these were found
+abbrev pub summed : Score → List ℕ
+summed s = decimal s.differ ++ differ_words ++ decimal s.wrong ++ wrong_words ++ decimal s.found ++ found_words

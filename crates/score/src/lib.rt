@@ -4,10 +4,11 @@
 
 ghost use Rattle.std.specs.Io.KnownBytes.{Appends};
 ghost use Rattle.std.specs.Prelude.{◌≡◌, OnOk};
-ghost use Rattle.score.specs.Counts.{none, counted, judged};
+ghost use Rattle.score.specs.Counts.{none, counted, judged, summed};
 
+use console::print_decimal;
+use std::io;
 use std::io::Write;
-use std::{fmt, io};
 
 #[derive(Clone, Copy, Debug, Default, PartialEq, Eq)]
 pub struct Score {
@@ -61,20 +62,18 @@ impl Score {
             _ => Ok(()),
         }
     }
-}
 
-// As in "0 differ; 5 wrong on purpose, 5 found".
-impl fmt::Display for Score {
-    fn fmt<W: fmt::Write>(&self, f: &mut fmt::Formatter<W>) -> fmt::Result {
-        let Score {
-            differ,
-            wrong,
-            found,
-            ..
-        } = *self;
-        write!(
-            f,
-            "{differ} differ; {wrong} wrong on purpose, {found} found"
-        )
+    // Prints the counts in a line, but for the right rows, of which each program says what they are: as in
+    // "0 differ; 5 wrong on purpose, 5 found".
+    // Kept: no Display: `print_decimal` of console, whose clause says which digits, prints to an io::Write.
+    pub fn print<W: Write>(self, out: &mut W) -> io::Result<()>
+        ensures { OnOk result (Appends (W.contents out.old) (W.contents out.new) (summed self)) }
+    {
+        print_decimal(out, self.differ)?;
+        out.write_all(b" differ; ")?;
+        print_decimal(out, self.wrong)?;
+        out.write_all(b" wrong on purpose, ")?;
+        print_decimal(out, self.found)?;
+        out.write_all(b" found\n")
     }
 }

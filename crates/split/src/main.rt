@@ -2,7 +2,7 @@
 // the input cannot be read, nothing is printed; what failed is said on standard error.
 #![tactic(auto)]
 
-ghost use Rattle.split.specs.Printing.{Prints};
+ghost use Rattle.split.specs.Printing.{Prints, Reads};
 ghost use Rattle.std.specs.Prelude.{◌≡◌, OnOk, Err};
 
 use console::read_full;
@@ -29,6 +29,7 @@ impl fmt::Display for Failure {
 // Reads the input to its end, or as much of it as settles what is printed, and prints that.
 fn split<R: Read, W: Write>(input: &mut R, output: &mut W) -> Result<(), Failure>
     ensures ok { OnOk result (Prints (R.remaining input.old) (W.contents output.old) (W.contents output.new)) }
+    ensures reads { Reads result (R.remaining input.old) (R.remaining input.new) }
     ensures unread { result ≡ Err Failure.Input → W.contents output.new ≡ W.contents output.old }
 {
     let mut text = [0; ENOUGH];
@@ -40,7 +41,8 @@ fn split<R: Read, W: Write>(input: &mut R, output: &mut W) -> Result<(), Failure
 
 fn main(rt: HostRuntime) {
     if let Err(failure) = split(&mut rt.stdin(), &mut rt.stdout()) {
-        // Where that cannot be written either, nobody is left to be told.
-        let _ = writeln!(rt.stderr(), "split: {failure}");
+        // Where that cannot be written either, nobody is left to be told. The line is written at once, so that
+        // nothing comes between its words where others write to the same place.
+        let _ = eprintln!(rt; "split: {failure}");
     }
 }

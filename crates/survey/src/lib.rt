@@ -54,7 +54,8 @@ fn put_survey(page: &mut Page, e: Entry, m: &mut [f64; READINGS])
 }
 
 // Writes what is printed of each survey that is complete before the first malformed line; or answers
-// that line.
+// that line. Built into the program `split` its readings would take stack, 20 KB, before the input is read.
+#[inline(never)]
 fn put_surveys(page: &mut Page, text: &[u8]) -> Result<(), Malformed>
     requires { page.old.at ≡ 0 }
     ensures line { LeavesLine text.now page.old page.new (line_of result) }

@@ -1,10 +1,11 @@
 -- Any two answers that a public function's promise allows are equal. The others' promises are equations for the answer
 -- itself. Assumes nothing.
-use Rattle.std.specs.Prelude.{◌≡◌, ℕ, ◌<◌, ◌≤◌, Option as Answer, Some, None, IfSome, unwrap_or, length}
-use Rattle.std.proofs.Common.{sym, ap, arith, ◌∙◌}
-use Rattle.std.proofs.Math.Option.{Option}
-use Rattle.text.specs.Text.{Bytes, worth, found, Put, leaves, put_at}
-use Rattle.text.specs.Code.{option_of}
+use Rattle.std.specs.Prelude.{◌≡◌, ℕ, ◌<◌, ◌≤◌, ◌+◌, [], Option as Answer, Some, None, IfSome, unwrap_or, length}
+use Rattle.std.proofs.Common.{refl, sym, ap, arith, ◌∙◌}
+use Rattle.std.proofs.Math.Option.{Option, none, some, none-ne-some}
+use denote.Ref.{Bor}
+use Rattle.text.specs.Text.{Bytes, worth, found, cut, Put, leaves, put_at}
+use Rattle.text.specs.Code.{option_of, parts_of, places_of, byte_at, lie_in}
 use Rattle.text.specs.declared.page.Page.{Page}
 use Rattle.text.specs.Page.{Puts}
 use Rattle.text.proofs.Options.{option_of-one}
@@ -37,6 +38,28 @@ found-one stop at s r r' e h e' h' = one (length s) r r' (e ∙ sym e') (below r
     below : (r : Answer ℕ) → IfSome r (λ i. (at ≤ i) × (i < length s)) → IfSome r (λ i. i < length s)
     below None h = tt
     below (Some x) h = h.1
+
+-- the two parts of what was cut: their bytes, and where they lie, p being where the bytes lie that were cut
+first : Option (Bytes × Bytes) → Bytes
+first none = []
+first (some x) = x.0
+
+pub cut-one :
+    (stop : ℕ) (s : Bytes) (p : ℕ × ℕ) (r r' : Answer (Bor Bytes × Bor Bytes)) →
+    parts_of r ≡ cut stop s → IfSome r (lie_in p) → parts_of r' ≡ cut stop s → IfSome r' (lie_in p) →
+    (parts_of r ≡ parts_of r') × (places_of r ≡ places_of r')
+unfolding first
+cut-one stop s p None None e h e' h' = (refl, refl)
+cut-one stop s p None (Some b) e h e' h' = absurd (none-ne-some (b.0.now, b.1.now) (e ∙ sym e'))
+cut-one stop s p (Some a) None e h e' h' = absurd (none-ne-some (a.0.now, a.1.now) (e' ∙ sym e))
+cut-one stop s p (Some a) (Some b) e h e' h' =
+    let d : parts_of (Some a) ≡ parts_of (Some b) = e ∙ sym e' in
+    let n : a.0.now ≡ b.0.now = ap first d in
+    let second : a.1.ref_ptr ≡ b.1.ref_ptr = h.1 ∙ ap (λ (l : Bytes). byte_at p (length l + 1)) n ∙ sym h'.1 in
+    (d, both (h.0 ∙ sym h'.0) second)
+  where
+    both : a.0.ref_ptr ≡ b.0.ref_ptr → a.1.ref_ptr ≡ b.1.ref_ptr → places_of (Some a) ≡ places_of (Some b)
+    both i j = rw (i, j) refl
 
 -- where what a writer wrote ends, and its slice: s are the bytes of `put`, of `put_hex`, of `put_decimal` or of
 -- `put_field`

@@ -1,7 +1,7 @@
 // Fields and lines: where the byte that ends one stands.
 ghost use Rattle.std.specs.Prelude.{◌≡◌, ◌<◌, ◌≤◌, length, IfSome, unwrap_or};
 ghost use Rattle.text.specs.Text.{found, cut as cut_at};
-ghost use Rattle.text.specs.Code.{parts_of};
+ghost use Rattle.text.specs.Code.{parts_of, lie_in};
 
 // Where the first byte `stop` from `at` on stands. None where there is none, and where `at` is past
 // the end.
@@ -17,7 +17,8 @@ pub fn find(s: &[u8], at: usize, stop: u8) -> Option<usize>
 
 // What stands before the first byte `stop`, and what follows that byte.
 pub fn cut(s: &[u8], stop: u8) -> Option<(&[u8], &[u8])>
-    ensures { parts_of result ≡ cut_at stop s.now }
+    ensures parts { parts_of result ≡ cut_at stop s.now }
+    ensures place { IfSome result (lie_in s.entry.ref_ptr) }
 {
     let i = find(s, 0, stop)?;
     Some((&s[..i], &s[i + 1..]))

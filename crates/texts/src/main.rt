@@ -7,7 +7,7 @@
 
 ghost use Rattle.std.specs.Prelude.{◌<◌, IfSome, length};
 
-use console::read_full;
+use console::{print_decimal, read_full};
 use score::Score;
 use std::io;
 use std::io::Write;
@@ -72,6 +72,9 @@ fn compare<W: Write>(out: &mut W, list: &[u8]) -> io::Result<Score> {
 fn main(rt: HostRuntime) -> io::Result<()> {
     let mut list = [0; WHOLE];
     let n = read_full(&mut rt.stdin(), &mut list)?;
-    let score = compare(&mut rt.stdout(), &list[..n])?;
-    println!(rt; "{} texts compared, {score}", score.right)
+    let mut out = rt.stdout();
+    let score = compare(&mut out, &list[..n])?;
+    print_decimal(&mut out, score.right)?;
+    out.write_all(b" texts compared, ")?;
+    score.print(&mut out)
 }

@@ -1,5 +1,5 @@
 // The lists of a run.
-ghost use Rattle.std.specs.Prelude.{◌≤◌};
+ghost use Rattle.std.specs.Prelude.{◌≡◌, ◌≤◌, length};
 ghost use Rattle.vectors.specs.declared.lists.TheConstants.{LONGEST};
 
 use crate::bits::Stop;
@@ -10,13 +10,14 @@ use std::io::Read;
 const LONGEST: usize = 49 * 49;
 
 // Room for it.
-#[derive(Clone, Copy)]
+#[derive(Drop)]
 struct Room([f64; LONGEST]);
 
 impl Room {
     // The first of its entries.
     fn first_mut(&mut self, len: usize) -> &mut [f64]
         requires { len ≤ LONGEST }
+        ensures { length result.now ≡ len }
     {
         &mut self.0[..len]
     }
@@ -24,7 +25,8 @@ impl Room {
 
 // A list of doubles, which stand at the start of its room.
 // Kept: room for the longest list and a length beside it, since there is no Vec.
-#[derive(Clone, Copy)]
+// Kept: no Copy and no Clone, which would be of the whole room: `copy_from` copies the entries alone.
+#[derive(Drop)]
 pub(crate) struct List {
     room: Room,
     len: usize,
@@ -32,24 +34,41 @@ pub(crate) struct List {
 }
 
 impl List {
-    // A list of this length, filled with what is never written among the values: a magnitude is not
-    // below zero.
+    // An empty list.
+    fn new() -> List {
+        List {
+            room: Room([0.0; LONGEST]),
+            len: 0,
+        }
+    }
+
+    // Becomes a blank list of this length, filled with what is never written among the values: a
+    // magnitude is not below zero.
     // Kept: the calls are lent plain doubles, so no Option says that an entry was not written.
-    pub(crate) fn blank(len: usize) -> Result<List, Stop> {
+    fn blank(&mut self, len: usize) -> Result<(), Stop> {
         if len > LONGEST {
             return Err(Stop::Malformed);
         }
-        Ok(List {
-            room: Room([-1.0; LONGEST]),
-            len,
-        })
+        self.len = len;
+        self.as_mut_slice().fill(-1.0);
+        Ok(())
     }
 
-    pub(crate) fn as_slice(&self) -> &[f64] {
+    // Becomes the same as the other list.
+    fn copy_from(&mut self, other: &List) {
+        self.len = other.len;
+        self.as_mut_slice().copy_from_slice(other.as_slice());
+    }
+
+    pub(crate) fn as_slice(&self) -> &[f64]
+        ensures { length result.now ≡ self.now.len }
+    {
         &self.room.0[..self.len]
     }
 
-    pub(crate) fn as_mut_slice(&mut self) -> &mut [f64] {
+    pub(crate) fn as_mut_slice(&mut self) -> &mut [f64]
+        ensures { length result.now ≡ self.old.len }
+    {
         let len = self.len;
         self.room.first_mut(len)
     }
@@ -90,7 +109,7 @@ pub(crate) struct Sizes {
 }
 
 // Matrix, U, V and the list of values.
-#[derive(Clone, Copy)]
+#[derive(Drop)]
 pub(crate) struct Lists {
     pub(crate) matrix: List,
     pub(crate) u: List,
@@ -99,13 +118,30 @@ pub(crate) struct Lists {
 }
 
 impl Lists {
-    pub(crate) fn blank(sizes: Sizes) -> Result<Lists, Stop> {
-        Ok(Lists {
-            matrix: List::blank(sizes.matrix)?,
-            u: List::blank(sizes.u)?,
-            v: List::blank(sizes.v)?,
-            values: List::blank(sizes.values)?,
-        })
+    // Empty lists.
+    pub(crate) fn new() -> Lists {
+        Lists {
+            matrix: List::new(),
+            u: List::new(),
+            v: List::new(),
+            values: List::new(),
+        }
+    }
+
+    // Become blank lists of these lengths.
+    pub(crate) fn blank(&mut self, sizes: Sizes) -> Result<(), Stop> {
+        self.matrix.blank(sizes.matrix)?;
+        self.u.blank(sizes.u)?;
+        self.v.blank(sizes.v)?;
+        self.values.blank(sizes.values)
+    }
+
+    // Become the same as the others.
+    pub(crate) fn copy_from(&mut self, other: &Lists) {
+        self.matrix.copy_from(&other.matrix);
+        self.u.copy_from(&other.u);
+        self.v.copy_from(&other.v);
+        self.values.copy_from(&other.values);
     }
 
     // Reads U and V.
@@ -116,9 +152,11 @@ impl Lists {
 
     // Whether each list is the same as the other's.
     pub(crate) fn same_as(&self, other: &Lists) -> bool {
-        self.matrix.same_as(&other.matrix)
-            && self.u.same_as(&other.u)
-            && self.v.same_as(&other.v)
-            && self.values.same_as(&other.values)
+        self.matrix.same_as(&other.matrix) && self.same_beside(other)
+    }
+
+    // Whether each list beside the matrix is the same as the other's.
+    pub(crate) fn same_beside(&self, other: &Lists) -> bool {
+        self.u.same_as(&other.u) && self.v.same_as(&other.v) && self.values.same_as(&other.values)
     }
 }

@@ -12,17 +12,22 @@ mod stored;
 mod totals;
 
 use crate::bits::Stop;
-use crate::replay::replayed;
+use crate::replay::{Rooms, replayed};
 use crate::stored::Head;
 use crate::totals::Totals;
 use std::io;
 use std::io::{Read, Write};
 
 // Replays the next run and counts it; whether the input goes on.
-fn step<R: Read, W: Write>(input: &mut R, out: &mut W, totals: &mut Totals) -> io::Result<bool> {
+fn step<R: Read, W: Write>(
+    input: &mut R,
+    out: &mut W,
+    rooms: &mut Rooms,
+    totals: &mut Totals,
+) -> io::Result<bool> {
     let (wrong, run) = match Head::read(input) {
         Ok(None) => return Ok(false),
-        Ok(Some(head)) => (head.is_wrong(), replayed(input, &head)),
+        Ok(Some(head)) => (head.is_wrong(), replayed(input, &head, rooms)),
         Err(stop) => (false, Err(stop)),
     };
     match run {
@@ -44,11 +49,12 @@ fn step<R: Read, W: Write>(input: &mut R, out: &mut W, totals: &mut Totals) -> i
 fn main(rt: HostRuntime) -> io::Result<()> {
     let mut input = rt.stdin();
     let mut out = rt.stdout();
+    let mut rooms = Rooms::new();
     let mut totals = Totals::default();
     for _ in 0..u64::MAX {
-        if !step(&mut input, &mut out, &mut totals)? {
+        if !step(&mut input, &mut out, &mut rooms, &mut totals)? {
             break;
         }
     }
-    writeln!(out, "{totals}")
+    totals.print(&mut out)
 }

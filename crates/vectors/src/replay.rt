@@ -59,47 +59,73 @@ struct Tried {
     agrees: bool,
 }
 
-// Makes the call on a copy of the lists.
-fn attempt(call: Call, head: &Head, before: &Lists, stored: &Outcome) -> Tried {
-    let mut lists = *before;
-    let answer = make(call, head, &mut lists);
-    let agrees = Answer::from(answer) == stored.answer && lists.same_as(&stored.lists);
+// Makes the call on a copy of the lists, in this room.
+fn attempt(call: Call, head: &Head, before: &Lists, stored: &Outcome, lists: &mut Lists) -> Tried {
+    lists.copy_from(before);
+    let answer = make(call, head, lists);
+    let agrees = Answer::from(answer) == stored.answer && lists.same_as(stored.lists);
     Tried { answer, agrees }
 }
 
 // Whether the plain call beside the accumulating one gives its report and leaves its matrix. The plain
 // call has no numbers 4 and 5: where one of them is stored, it is not made.
 // Kept: a bool: a call that is not made differs in nothing, which an Option would leave to be said here.
-fn plain_agrees(head: &Head, before: &Lists, full: &Outcome) -> bool {
+fn plain_agrees(head: &Head, before: &Lists, full: &Outcome, lists: &mut Lists) -> bool {
     if matches!(full.answer.number(), 4 | 5) {
         return true;
     }
-    let stored = Outcome {
-        answer: full.answer,
-        lists: Lists {
-            matrix: full.lists.matrix,
-            ..*before
-        },
-    };
-    attempt(Call::Plain, head, before, &stored).agrees
+    lists.copy_from(before);
+    let answer = make(Call::Plain, head, lists);
+    Answer::from(answer) == full.answer
+        && lists.matrix.same_as(&full.lists.matrix)
+        && lists.same_beside(before)
+}
+
+// Room for the lists before the calls of a run, for those that a call is to leave, and for those that
+// it is made on.
+// Kept: the same for all runs: made for each, it would be cleared for the shortest too.
+#[derive(Drop)]
+pub(crate) struct Rooms {
+    before: Lists,
+    after: Lists,
+    lent: Lists,
+}
+
+impl Rooms {
+    pub(crate) fn new() -> Rooms {
+        Rooms {
+            before: Lists::new(),
+            after: Lists::new(),
+            lent: Lists::new(),
+        }
+    }
 }
 
 // Replays the run of this head.
-pub(crate) fn replayed<R: Read>(input: &mut R, head: &Head) -> Result<Made, Stop> {
-    let before = head.read_lists(input)?;
-    let stored = Outcome::read_first(input, &before)?;
+pub(crate) fn replayed<R: Read>(
+    input: &mut R,
+    head: &Head,
+    rooms: &mut Rooms,
+) -> Result<Made, Stop> {
+    let Rooms {
+        before,
+        after,
+        lent,
+    } = rooms;
+    head.read_lists(input, before)?;
+    let stored = Outcome::read_first(input, before, after)?;
     let mut differ = 0;
     let first = if head.kept == Call::Plain {
-        attempt(Call::Plain, head, &before, &stored)
+        attempt(Call::Plain, head, before, &stored, lent)
     } else {
-        differ += u64::from(!plain_agrees(head, &before, &stored));
-        attempt(Call::Full, head, &before, &stored)
+        differ += u64::from(!plain_agrees(head, before, &stored, lent));
+        attempt(Call::Full, head, before, &stored, lent)
     };
     differ += u64::from(!first.agrees);
     let mut in_order = false;
     if head.kept == Call::Ordered {
-        let stored = Outcome::read_ordered(input, &before, &stored.lists)?;
-        let ordered = attempt(Call::Ordered, head, &before, &stored);
+        let stored = Outcome::read_ordered(input, before, after)?;
+        let ordered = attempt(Call::Ordered, head, before, &stored, lent);
         differ += u64::from(!ordered.agrees);
         in_order = ordered.answer.is_ok();
     }

@@ -179,18 +179,17 @@ impl Head {
     }
 
     // Reads what the lists are before the calls.
-    pub(crate) fn read_lists<R: Read>(&self, input: &mut R) -> Result<Lists, Stop> {
-        let mut lists = Lists::blank(self.sizes)?;
+    pub(crate) fn read_lists<R: Read>(&self, input: &mut R, lists: &mut Lists) -> Result<(), Stop> {
+        lists.blank(self.sizes)?;
         lists.matrix.read(input)?;
         match (self.kept, self.start) {
-            (Call::Plain, _) => {}
+            (Call::Plain, _) => Ok(()),
             (_, Start::Identity) => {
                 fill(&mut lists.u, self.rows)?;
-                fill(&mut lists.v, self.cols)?;
+                fill(&mut lists.v, self.cols)
             }
-            (_, Start::Stored) => lists.read_factors(input)?,
+            (_, Start::Stored) => lists.read_factors(input),
         }
-        Ok(lists)
     }
 }
 
@@ -265,18 +264,23 @@ impl Answer {
 }
 
 // What a call answers, and what it leaves.
+// Kept: the lists are lent: held here, each would be copied with its whole room.
 #[derive(Clone, Copy)]
-pub(crate) struct Outcome {
+pub(crate) struct Outcome<'a> {
     pub(crate) answer: Answer,
-    pub(crate) lists: Lists,
+    pub(crate) lists: &'a Lists,
 }
 
-impl Outcome {
+impl<'a> Outcome<'a> {
     // Reads what the first call on these lists comes to: the accumulating one, or the plain one where
     // that alone is made.
-    pub(crate) fn read_first<R: Read>(input: &mut R, before: &Lists) -> Result<Outcome, Stop> {
+    pub(crate) fn read_first<R: Read>(
+        input: &mut R,
+        before: &Lists,
+        lists: &'a mut Lists,
+    ) -> Result<Outcome<'a>, Stop> {
         let answer = Answer::read(input)?;
-        let mut lists = *before;
+        lists.copy_from(before);
         if answer.number() == 0 {
             lists.matrix.read(input)?;
             lists.read_factors(input)?;
@@ -284,21 +288,21 @@ impl Outcome {
         Ok(Outcome { answer, lists })
     }
 
-    // Reads what the ordered call comes to, of whose lists these are what they were before it and what
-    // the accumulating call leaves.
+    // Reads what the ordered call comes to, where these are the lists before it and those that the
+    // accumulating call leaves.
     pub(crate) fn read_ordered<R: Read>(
         input: &mut R,
         before: &Lists,
-        full: &Lists,
-    ) -> Result<Outcome, Stop> {
+        lists: &'a mut Lists,
+    ) -> Result<Outcome<'a>, Stop> {
         let answer = Answer::read(input)?;
-        let mut lists = match answer.number() {
-            0 | 12 | 13 => *full,
-            _ => *before,
-        };
-        if answer.number() == 0 {
-            lists.values.read(input)?;
-            lists.read_factors(input)?;
+        match answer.number() {
+            0 => {
+                lists.values.read(input)?;
+                lists.read_factors(input)?;
+            }
+            12 | 13 => {}
+            _ => lists.copy_from(before),
         }
         Ok(Outcome { answer, lists })
     }

@@ -1,8 +1,9 @@
 // What has been counted of the runs, from what the calls answered, and how it is printed.
 use crate::replay::Made;
+use console::print_decimal;
 use score::Score;
+use std::io;
 use std::io::Write;
-use std::{fmt, io};
 use svd::report::Word;
 
 // Kept: a counter by its name for each word; in an array each would be found by a number.
@@ -56,12 +57,11 @@ impl Totals {
         self.in_order = self.in_order.saturating_add(u64::from(made.in_order));
         self.by_profile = self.by_profile.saturating_add(u64::from(made.by_profile));
     }
-}
 
-// As in "9 runs: 2 refused, 4 settled, 2 stopped, 1 quiet, 70 passes, 3 in order, 2 by profile, 0
-// differ; 5 wrong on purpose, 5 found".
-impl fmt::Display for Totals {
-    fn fmt<W: fmt::Write>(&self, f: &mut fmt::Formatter<W>) -> fmt::Result {
+    // Prints a line: as in "9 runs: 2 refused, 4 settled, 2 stopped, 1 quiet, 70 passes, 3 in order, 2 by
+    // profile, 0 differ; 5 wrong on purpose, 5 found".
+    // Kept: no Display, as `Score::print` has none.
+    pub(crate) fn print<W: Write>(&self, out: &mut W) -> io::Result<()> {
         let Totals {
             score,
             refused,
@@ -72,14 +72,20 @@ impl fmt::Display for Totals {
             in_order,
             by_profile,
         } = *self;
-        let right = score.right;
-        write!(
-            f,
-            "{right} runs: {refused} refused, {settled} settled, {stopped} stopped, {quiet} quiet, "
-        )?;
-        write!(
-            f,
-            "{passes} passes, {in_order} in order, {by_profile} by profile, {score}"
-        )
+        let counts = [
+            (score.right, " runs: "),
+            (refused, " refused, "),
+            (settled, " settled, "),
+            (stopped, " stopped, "),
+            (quiet, " quiet, "),
+            (passes, " passes, "),
+            (in_order, " in order, "),
+            (by_profile, " by profile, "),
+        ];
+        for (count, words) in counts {
+            print_decimal(out, count)?;
+            out.write_all(words.as_bytes())?;
+        }
+        score.print(out)
     }
 }

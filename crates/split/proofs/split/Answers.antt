@@ -1,12 +1,15 @@
 -- `split::split` meets its contract: what was read settles what is printed of the input. Assumes nothing.
-use Rattle.std.proofs.Common.{◌≡◌, ◌≤◌, ◌<◌, ◌++◌, ℕ, Bool, true, false, [], length, take, refl, subst, sym, leb, leb-true, leb-false, arith, Option, Some, None, OnOk, Ok, Err, Result, ap, take_all, take_at, length-take-le, append-nil}
-use Rattle.std.specs.Prelude.{MatchResult, is_ok}
+use Rattle.std.proofs.Common.{◌≡◌, ◌≤◌, ◌<◌, ◌++◌, ℕ, Bool, true, false, [], length, take, refl, subst, sym, ◌∙◌, leb, leb-true, leb-false, arith, Option, Some, None, OnOk, Ok, Err, Result, ap, take_all, take_at, length-take-le, append-nil}
+use Rattle.std.specs.Prelude.{MatchResult, is_ok, drop}
 use Rattle.std.specs.Io.KnownBytes.{Appends, Consumes, IsAtEnd}
 use Rattle.text.specs.Text.{Bytes}
 use Rattle.survey.specs.Sizes.{enough, room}
 use Rattle.survey.specs.Answers.{InputPromised}
 use Rattle.survey.proofs.Answers.{begins}
-use Rattle.split.specs.Printing.{Prints}
+use Rattle.std.proofs.lemmas.List.{drop_at, drop_all}
+use Rattle.split.specs.declared.Failure.{Failure}
+use Rattle.split.specs.declared.Failure.TheVariants.{Input, Output}
+use Rattle.split.specs.Printing.{Prints, Leaves, Reads}
 use Rattle.split.proofs.split.Goals as goal
 
 -- what was read settles what is printed: it is all that there was, or enough
@@ -22,6 +25,32 @@ settles enough t rest read n e h q last = go (leb enough n) refl
     go false x =
         let z : rest ≡ [] = last (omega (arith, leb-false enough n x)) in
         rw (q, z, append-nil) (take_all enough (take n read) (omega (arith, long, leb-false enough n x)))
+
+-- and no more is read than that
+leaves : (enough : ℕ) (t rest read : Bytes) (n : ℕ) → length read ≡ enough → n ≤ length read → t ≡ take n read ++ rest
+    → (n < length read → rest ≡ []) → rest ≡ drop enough t
+leaves enough t rest read n e h q last = go (leb enough n) refl
+  where
+    long : length (take n read) ≡ n
+    long = length-take-le n read h
+
+    go : (x : Bool) → leb enough n ≡ x → rest ≡ drop enough t
+    go true x = rw q (sym (drop_at (take n read) rest enough (omega (arith, long, leb-true enough n x))))
+    go false x =
+        let z : rest ≡ [] = last (omega (arith, leb-false enough n x)) in
+        let short : length t ≤ enough = rw (q, z, append-nil) (omega (arith, long, leb-false enough n x)) in
+        z ∙ sym (drop_all enough t short)
+
+left : (old mid : Option Bytes) (read : Bytes) (n : ℕ) → length read ≡ enough → n ≤ length read
+    → Consumes old mid (take n read) → (n < length read → IsAtEnd mid) → Leaves old mid
+left None mid read n e h c l = tt
+left (Some t) None read n e h c l = c
+left (Some t) (Some rest) read n e h c l = leaves enough t rest read n e h c l
+
+reads : (r : Result (Unit {0}) Failure) (old mid : Option Bytes) → Leaves old mid → Reads r old mid
+reads (Ok x) old mid l = l
+reads (Err Input) old mid l = tt
+reads (Err Output) old mid l = l
 
 printed : (old mid before after : Option Bytes) (read out₀ out : Bytes) (n k : ℕ) → length read ≡ enough → length out₀ ≡ room
     → n ≤ length read → Consumes old mid (take n read) → (n < length read → IsAtEnd mid)
@@ -52,3 +81,14 @@ returns-clause-ok g c =
     let end : n < length text → IsAtEnd (g.R.Read.remaining c.read_full.new.input) = rw r at c.read_full.ensures.end in
     where-ok _ _ _ c.map_err-2.ensures.cases c.map_err-2.ensures.variant c.write_all.ensures.bytes
     (printed _ _ _ _ text _ _ n _ long refl bound.0 bytes end c.split_input-k.ensures)
+
+pub returns-clause-reads : goal.returns-clause-reads
+returns-clause-reads g c =
+    let text = c.read_full.new.buf in
+    let n = c.in_ok-n.n in
+    let r = was _ _ c.read_full.result n c.in_ok-n.ensures.cases c.in_ok-n.ensures.variant in
+    let long : length text ≡ enough = omega (arith, c.read_full.auto.buf) in
+    let bound : (n ≤ length text) × (n ≡ length (take n text)) = rw r at c.read_full.ensures.bound in
+    let bytes : Consumes (g.R.Read.remaining c.args.input.now) (g.R.Read.remaining c.read_full.new.input) (take n text) = rw r at c.read_full.ensures.bytes in
+    let end : n < length text → IsAtEnd (g.R.Read.remaining c.read_full.new.input) = rw r at c.read_full.ensures.end in
+    reads _ _ _ (left _ _ text n long bound.0 bytes end)

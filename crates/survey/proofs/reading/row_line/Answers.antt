@@ -11,15 +11,15 @@ loop-k-init c =
 
 pub returns-in_err-reading : goal.returns-in_err-reading
 returns-in_err-reading c =
-    rw c.from_residual.ensures (row_none _ _ _ _ _ c.loop-k-test.true c.in_err-reading.ensures ∙ c.loop-k.invariant)
+    rw c.from_residual.ensures (row_none _ _ _ _ _ c.loop-k-test.true c.in_err-reading.ensures.parts ∙ c.loop-k.invariant)
 
 pub returns-in_err-bits : goal.returns-in_err-bits
 returns-in_err-bits c =
-    rw c.from_residual-in_err-bits.ensures (row_bad _ _ _ _ _ c.loop-k-test.true _ _ c.in_ok-reading.ensures c.in_err-bits.ensures ∙ c.loop-k.invariant)
+    rw c.from_residual-in_err-bits.ensures (row_bad _ _ _ _ _ c.loop-k-test.true _ _ c.in_ok-reading.ensures.parts c.in_err-bits.ensures ∙ c.loop-k.invariant)
 
 pub loop-k-preserved : goal.loop-k-preserved
 loop-k-preserved c =
-    rw c.from_bits.ensures (row_next _ _ _ _ _ c.loop-k-test.true _ _ c.in_ok-reading.ensures _ c.in_ok-bits.ensures ∙ c.loop-k.invariant)
+    rw c.from_bits.ensures (row_next _ _ _ _ _ c.loop-k-test.true _ _ c.in_ok-reading.ensures.parts _ c.in_ok-bits.ensures ∙ c.loop-k.invariant)
 
 pub returns-in_err-last : goal.returns-in_err-last
 returns-in_err-last c =

@@ -10,8 +10,8 @@ cut-parts : (stop : ℕ) (s : Bytes) (i : ℕ) → i ≡ found stop 0 s → i < 
     → some (take i s, take (length s - (i + 1)) (drop (i + 1) s)) ≡ cut stop s
 cut-parts stop s i f h = let z : i - 0 ≡ i = omega arith in rw (rest_of s (i + 1)) (sym (rw z at (cut-some stop s 0 i f h)))
 
-pub returns-in_err-i : goal.returns-in_err-i
-returns-in_err-i c = rw c.from_residual.ensures (sym (cut-none c.args.stop c.args.s.now 0 _ c.in_err-i.ensures.found refl))
+pub returns-in_err-i-clause-parts : goal.returns-in_err-i-clause-parts
+returns-in_err-i-clause-parts c = rw c.from_residual.ensures (sym (cut-none c.args.stop c.args.s.now 0 _ c.in_err-i.ensures.found refl))
 
-pub returns : goal.returns
-returns c = cut-parts _ _ _ c.in_ok-i.ensures.found c.in_ok-i.ensures.within.1
+pub returns-clause-parts : goal.returns-clause-parts
+returns-clause-parts c = cut-parts _ _ _ c.in_ok-i.ensures.found c.in_ok-i.ensures.within.1
